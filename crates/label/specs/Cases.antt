@@ -1,0 +1,80 @@
+-- Document 01, cases P1 to P14: a table, a call on it, the number returned and the bytes moved.
+-- Assumes nothing.
+use mathlib.Core.Path.{_≡_}
+use mathlib.Core.Bool.{Bool, true, cond}
+use mathlib.Core.List.{List, [], _∷_, map}
+use Prim.Native.Nat.{ℕ, _^_}
+use lib.Dec.{eqb}
+use lib.ListN.{getD, replicate}
+use Rattle.rules.specs.declared.Kind.the-variants.{Program}
+use Rattle.rules.specs.Table.{Slot, Plain, plain, free, accepted}
+use Rattle.rules.specs.Calls.{Call, put, show, send, addTag, dropTag, hand}
+use Rattle.rules.specs.Record.{answer}
+use Rattle.label.specs.declared.Label.{Label}
+use Rattle.label.specs.Tags.{labelOf, empty}
+use Rattle.label.specs.Words.{words}
+
+pub record Case : Type 0 where
+  pub table : Plain words
+  pub call : Call words
+  pub number : ℕ
+  pub count : ℕ
+
+-- slot 0 holds the caller, slot 1 the receiver, the others are free
+abbrev hub : List Label → Slot words → Slot words → Plain words
+hub groups a b = record { slots = λ i. cond (eqb i 0) a (cond (eqb i 1) b free); groups = groups }
+
+-- a program with this S, I, rights to add to S and to drop from S, and content
+abbrev program : Label → Label → Label → Label → List ℕ → Slot words
+program s i sa sd bs = record { kind = Program; sec = s; int = i; rights = record { sa = sa; sd = sd; ia = empty; id = empty }; content = bs }
+
+abbrev labelled : Label → Label → List ℕ → Slot words
+labelled s i bs = program s i empty empty bs
+
+abbrev three : List ℕ
+three = 1 ∷ 2 ∷ 3 ∷ []
+
+abbrev pub cases : List Case
+cases =
+    -- P1 S {0} sends to S {0,1}, I empty; P2 the reverse
+    record { table = hub [] (labelled (labelOf 1) empty three) (labelled (labelOf 3) empty []); call = send 0 1; number = 0; count = 3 }
+    ∷ record { table = hub [] (labelled (labelOf 3) empty three) (labelled (labelOf 1) empty []); call = send 0 1; number = 7; count = 0 }
+    -- P3 I {} sends to I {2}, S empty; P4 the reverse
+    ∷ record { table = hub [] (labelled empty empty three) (labelled empty (labelOf 4) []); call = send 0 1; number = 7; count = 0 }
+    ∷ record { table = hub [] (labelled empty (labelOf 4) three) (labelled empty empty []); call = send 0 1; number = 0; count = 3 }
+    -- P5 send to itself, 64 bytes
+    ∷ record { table = hub [] (labelled empty empty (replicate 64 7)) free; call = send 0 0; number = 0; count = 64 }
+    -- P6 add tag 63 to S with the right; P7 add tag 64
+    ∷ record { table = hub [] (program empty empty (labelOf (2 ^ 63)) empty three) free; call = addTag 0 0 63; number = 0; count = 0 }
+    ∷ record { table = hub [] (program empty empty (labelOf (2 ^ 63)) empty three) free; call = addTag 0 0 64; number = 2; count = 0 }
+    -- P8 drop a tag not worn, no right
+    ∷ record { table = hub [] (labelled empty empty three) free; call = dropTag 0 0 5; number = 10; count = 0 }
+    -- P9 put 64 bytes; P10 put 65
+    ∷ record { table = hub [] (labelled empty empty three) free; call = put 0 (replicate 64 7); number = 0; count = 64 }
+    ∷ record { table = hub [] (labelled empty empty three) free; call = put 0 (replicate 65 7); number = 5; count = 0 }
+    -- P11 group {0,1}, the receiver wears only 0 and has no rights, the caller hands its right to drop 1; P12 the same with tag 0
+    ∷ record { table = hub (labelOf 3 ∷ []) (program empty empty empty (labelOf 2) three) (labelled (labelOf 1) empty []); call = hand 0 1 1 1; number = 11; count = 0 }
+    ∷ record { table = hub (labelOf 3 ∷ []) (program empty empty empty (labelOf 1) three) (labelled (labelOf 1) empty []); call = hand 0 1 1 0; number = 0; count = 0 }
+    -- P13 show 3 bytes into 2; P14 into 3
+    ∷ record { table = hub [] (labelled empty empty three) free; call = show 0 (replicate 2 0); number = 6; count = 0 }
+    ∷ record { table = hub [] (labelled empty empty three) free; call = show 0 (replicate 3 0); number = 0; count = 3 }
+    ∷ []
+
+-- A case holds when its table is accepted and the call's record says the number and the bytes moved
+pub record Outcomes : Type 0 where
+  pub accepted : Bool
+  pub number : ℕ
+  pub count : ℕ
+
+abbrev pub given : Case → Outcomes
+given k = record {
+  accepted = accepted (plain words) (k .table);
+  number = getD (answer (plain words) (k .table) (k .call) .entry) 3 0;
+  count = getD (answer (plain words) (k .table) (k .call) .entry) 4 0;
+}
+
+abbrev pub stated : Case → Outcomes
+stated k = record { accepted = true; number = k .number; count = k .count }
+
+abbrev pub CasesHold : Type 0
+CasesHold = map given cases ≡ map stated cases

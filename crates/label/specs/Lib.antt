@@ -1,0 +1,3 @@
+pub mod Tags
+pub mod Words
+pub mod Cases

@@ -1,0 +1,13 @@
+pub mod Facts
+pub mod Bounded
+pub mod Steps
+pub mod Groups
+pub mod Refused
+pub mod Shows
+pub mod Unwinding
+pub mod Hiding
+pub mod TwoRuns
+pub mod Records
+pub mod Secrecy
+pub mod Integrity
+pub mod Plain

@@ -1,0 +1,46 @@
+-- To whom the record of a call shows.
+-- Assumes nothing.
+use mathlib.Core.Path.{_≡_, refl, sym, _∙_}
+use mathlib.Core.Bool.{Bool, true, false, cond, not, _&&_, _||_}
+use Rattle.rules.specs.Labels.{Labels}
+use Rattle.rules.specs.Table.{isProgram, Tables, at}
+use Rattle.rules.specs.Calls.{Call, callerOf, otherOf}
+use Rattle.rules.specs.Refusals.{step}
+use Rattle.rules.specs.Record.{needOf, visible, answer}
+use Rattle.rules.specs.Laws.{OrderLaws}
+use Rattle.rules.specs.Claims.{RecordsShow}
+use Rattle.rules.proofs.Facts.{and-left, and-right, both, iff}
+
+module _ {A : Labels} (O : OrderLaws A) where
+  join-below : (a b c : A .Label) → A .below (A .join a b) c ≡ A .below a c && A .below b c
+  join-below a b c = iff (A .below (A .join a b) c) (A .below a c && A .below b c)
+      (λ h. both (A .below a c) (A .below b c) (O .below-trans a (A .join a b) c (O .join-left a b) h) (O .below-trans b (A .join a b) c (O .join-right a b) h))
+      (λ h. O .join-least a b c (and-left (A .below a c) _ h) (and-right (A .below a c) _ h))
+
+  three-below : (a b c l : A .Label) → A .below (A .join (A .join a b) c) l ≡ A .below a l && (A .below b l && A .below c l)
+  three-below a b c l = rw (join-below (A .join a b) c l, join-below a b l) (assoc (A .below a l))
+    where
+      assoc : (x : Bool) → x && A .below b l && A .below c l ≡ x && (A .below b l && A .below c l)
+      assoc true = refl
+      assoc false = refl
+
+  module _ (T : Tables A) where
+    -- a record shows to whoever its need is below
+    pub shows : (t : T .Table) (c : Call A) (l : A .Label) → visible A l (answer T t c .entry) ≡ A .below (needOf T t c) l
+    shows t c l = O .bytes-below (needOf T t c) l
+
+    pub records-show : RecordsShow T
+    records-show t c l = shows t c l ∙ go (T .formed t && isProgram (at T t (callerOf c) .kind))
+      where
+        a : A .Label
+        a = at T t (callerOf c) .sec
+
+        b : A .Label
+        b = at T (step T t c) (callerOf c) .sec
+
+        o : A .Label
+        o = at T t (otherOf c) .sec
+
+        go : (z : Bool) → A .below (cond z (A .join (A .join a b) o) (A .empty)) l ≡ not z || (A .below a l && (A .below b l && A .below o l))
+        go true = three-below a b o l
+        go false = O .empty-below l

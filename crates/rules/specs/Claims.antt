@@ -1,0 +1,83 @@
+-- What is claimed of the hub's rules, for the tables T. The proofs are under proofs/, for any labels and tables with the laws.
+-- Assumes nothing.
+use mathlib.Core.Path.{_≡_}
+use mathlib.Core.Bool.{Bool, true, false, not, _&&_, _||_}
+use mathlib.Core.List.{List, []}
+use Prim.Native.Nat.{ℕ}
+use lib.Dec.{ltb, leb, eqb}
+use lib.ListN.{length, getD}
+use Rattle.rules.specs.declared.Outcome.{Outcome}
+use Rattle.rules.specs.declared.Outcome.the-variants.{Refused}
+use Rattle.rules.specs.Labels.{Labels}
+use Rattle.rules.specs.Table.{isProgram, Tables, at, accepted}
+use Rattle.rules.specs.Calls.{Call, callerOf, otherOf, lent}
+use Rattle.rules.specs.Refusals.{verdict, step}
+use Rattle.rules.specs.Record.{answer, visible, audit}
+use Rattle.rules.specs.Runs.{Hidden, bears, final, trace, kept, TablesDiffer, hiddenAt, struck, heard, records}
+
+-- the numbers of a call's refusals: 1 to 11 and 99
+abbrev pub listed : ℕ → Bool
+listed n = (ltb 0 n && leb n 11) || eqb n 99
+
+module _ {A : Labels} (T : Tables A) where
+  -- ---- Demand 1
+
+  -- A refusal has a listed number, which stands in the record; the table and the lent buffer hold what they held, no
+  -- bytes moved, and the part is empty
+  pub record Unmoved (t : T .Table) (c : Call A) (n : ℕ) : Type 0 where
+    pub number : listed n ≡ true
+    pub table : step T t c ≡ t
+    pub buffer : answer T t c .buffer ≡ lent c
+    pub part : answer T t c .part ≡ []
+    pub recorded : getD (answer T t c .entry) 3 0 ≡ n
+    pub count : getD (answer T t c .entry) 4 0 ≡ 0
+
+  abbrev pub RefusalsMoveNothing : Type 0
+  RefusalsMoveNothing = (t : T .Table) (c : Call A) (n : ℕ) → verdict T t c ≡ Refused n → Unmoved t c n
+
+  -- ---- Demand 2
+
+  -- No sequence of calls takes an accepted table to one that is not: the form is kept, and no entity breaks a group
+  abbrev pub StaysAccepted : Type 0
+  StaysAccepted = (t : T .Table) (cs : List (Call A)) → accepted T t ≡ true → accepted T (final (step T) t cs) ≡ true
+
+  -- A record shows to exactly those whose S takes in the S of its caller, before and after the call, and of its other
+  -- (003, section 6.4); one of refusal 1 or 99, to everybody
+  abbrev pub RecordsShow : Type 0
+  RecordsShow = (t : T .Table) (c : Call A) (l : A .Label) → visible A l (answer T t c .entry)
+      ≡ (not (T .formed t && isProgram (at T t (callerOf c) .kind))
+      || (A .below (at T t (callerOf c) .sec) l
+      && (A .below (at T (step T t c) (callerOf c) .sec) l && A .below (at T t (otherOf c) .sec) l)))
+
+  -- ---- Demand 3
+
+  -- What two runs have in common for those from whom something is hidden: the tables at the end differ only in hidden
+  -- contents, and the answers to callers who are not hidden are the same, in order
+  pub record RunsAlike (H : Hidden A) (t u : T .Table) (cs ds : List (Call A)) : Type 0 where
+    pub tables : TablesDiffer T H (final (step T) t cs) (final (step T) u ds)
+    pub answers : trace (step T) (heard T H) t cs ≡ trace (step T) (heard T H) u ds
+
+  -- An audit by a caller who is not hidden, with each run's end table and its own full list of records, into buffers of
+  -- one length: the number and the part are the same
+  pub record AuditsAlike (H : Hidden A) (t u : T .Table) (cs ds : List (Call A)) (i : ℕ) (buf buf′ : List ℕ) : Type 0 where
+    pub outcome : audit T (final (step T) t cs) i (records T t cs) buf .outcome ≡ audit T (final (step T) u ds) i (records T u ds) buf′ .outcome
+    pub part : audit T (final (step T) t cs) i (records T t cs) buf .part ≡ audit T (final (step T) u ds) i (records T u ds) buf′ .part
+
+  -- A secrecy tag p that no program of the starting table has the right to drop. Two accepted tables that differ only in
+  -- the contents of entities bearing it, and two lists of calls, the same once every put, show, send and fetch by a
+  -- program bearing it is struck out
+  pub record SecretRuns (p : A .Tag) (t u : T .Table) (cs ds : List (Call A)) : Type 0 where
+    pub left : accepted T t ≡ true
+    pub right : accepted T u ≡ true
+    pub undroppable : (i : ℕ) → isProgram (at T t i .kind) ≡ true → A .has (at T t i .rights .sd) p ≡ false
+    pub tables : TablesDiffer T (bears A p) t u
+    pub calls : kept (step T) (struck T (bears A p)) t cs ≡ kept (step T) (struck T (bears A p)) u ds
+
+  -- Nobody without the tag learns anything
+  pub record Undisclosed (p : A .Tag) (t u : T .Table) (cs ds : List (Call A)) : Type 0 where
+    pub runs : RunsAlike (bears A p) t u cs ds
+    pub audits : (i : ℕ) → hiddenAt T (bears A p) (final (step T) t cs) i ≡ false
+        → (buf buf′ : List ℕ) → length buf ≡ length buf′ → AuditsAlike (bears A p) t u cs ds i buf buf′
+
+  abbrev pub Secrecy : A .Tag → Type 0
+  Secrecy p = (t u : T .Table) (cs ds : List (Call A)) → SecretRuns p t u cs ds → Undisclosed p t u cs ds

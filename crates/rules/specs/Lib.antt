@@ -1,0 +1,9 @@
+pub mod Bounded
+pub mod Labels
+pub mod Table
+pub mod Calls
+pub mod Refusals
+pub mod Record
+pub mod Runs
+pub mod Claims
+pub mod Laws
