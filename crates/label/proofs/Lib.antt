@@ -2,5 +2,3 @@ pub mod Laws
 pub mod Bytes
 pub mod Order
 pub mod Words
-pub mod Claims
-pub mod Cases

@@ -146,5 +146,6 @@ module _ {A : Labels} (O : OrderLaws A) where
             (λ p. written-keeps (T .groups t) (at T t (callerOf c)) (at T t (otherOf c)) (keep (callerOf c)) (keep (otherOf c)) c (p .off)) keep i)
 
     pub stays-accepted : StaysAccepted T
-    stays-accepted t [] h = h
-    stays-accepted t (c ∷ cs) h = stays-accepted (step T t c) cs (step-accepted t c h)
+    stays-accepted t [] h = record { accepted = h; groups = refl }
+    stays-accepted t (c ∷ cs) h = let k = stays-accepted (step T t c) cs (step-accepted t c h) in
+        record { accepted = k .accepted; groups = k .groups ∙ step-groups T O L t c }

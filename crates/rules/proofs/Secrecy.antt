@@ -15,8 +15,8 @@ use Rattle.rules.specs.declared.Outcome.{Outcome}
 use Rattle.rules.specs.Labels.{Labels}
 use Rattle.rules.specs.Table.{isFree, isProgram, Rights, Slot, Tables, rightless, kindFormed, slotFormed, at, accepted}
 use Rattle.rules.specs.Calls.{Call, addRight, dropRight, rightAt, grant, callerOf, otherOf}
-use Rattle.rules.specs.Refusals.{_if_else_, allow, first, onAllowed, step}
-use Rattle.rules.specs.Record.{needOf, answer, visible, recordSize, recordsIn, shownOf, auditable, audit}
+use Rattle.rules.specs.Refusals.{first, onAllowed, step}
+use Rattle.rules.specs.Record.{needOf, answer, visible, recordSize, recordsIn, shownOf, auditable, auditRefusals, audit}
 use Rattle.rules.specs.Runs.{Hidden, bears, final, trace, kept, hiddenAt, struck, heard, records}
 use Rattle.rules.specs.Laws.{OrderLaws, TagLaws, TableLaws}
 use Rattle.rules.specs.Claims.{AuditsAlike, Secrecy}
@@ -71,24 +71,22 @@ module _ {A : Labels} (p : A .Tag) (G : TagLaws A p) where
       no-right : rightless r ≡ true → A .has (r .sd) p ≡ false
       no-right e = contra (A .has (r .sd) p) (A .has (A .empty) p) (G .same-has (r .sd) (A .empty) (and-left (A .same (r .sd) (A .empty)) _ (and-right (A .same (r .sa) (A .empty)) _ e))) (G .empty-has)
 
-      go : (k : Kind) → (isProgram k ≡ true → A .has (r .sd) p ≡ false) → kindFormed k (at T t i) ≡ true → A .has (r .sd) p ≡ false
+      go : (k : Kind) → (isProgram k ≡ true → A .has (r .sd) p ≡ false) → kindFormed k (at T t i .sec) (at T t i .int) r (length (at T t i .content)) ≡ true → A .has (r .sd) p ≡ false
       go Free q e = no-right (and-left (rightless r) _ (and-right (A .same (at T t i .sec) (A .empty) && A .same (at T t i .int) (A .empty)) _ e))
       go Item q e = no-right e
       go Program q e = q refl
 
 -- ---- records
 
--- an audit by what it depends on: the form, the caller, whole records, room, and the bytes to be shown
-abbrev auditOf : Bool → Bool → Bool → ℕ → List ℕ → Outcome × List ℕ
-auditOf f k w m bs =
-    let v : Outcome = first (99 if not f else 1 if not k else 12 if not w else 13 if ltb m (length bs) else allow) in
-    (v, onAllowed v bs [])
+-- an audit by what it depends on
+abbrev audited : Bool → Bool → Bool → ℕ → List ℕ → Outcome × List ℕ
+audited f k w m bs = (first (auditRefusals f k w m (length bs)), onAllowed (first (auditRefusals f k w m (length bs))) bs [])
 
 -- the bytes matter only where the caller is a program
-auditOf-alike : (f k w : Bool) (m : ℕ) (bs cs : List ℕ) → (k ≡ true → bs ≡ cs) → auditOf f k w m bs ≡ auditOf f k w m cs
-auditOf-alike f true w m bs cs h = ap (auditOf f true w m) (h refl)
-auditOf-alike true false w m bs cs h = refl
-auditOf-alike false false w m bs cs h = refl
+audited-alike : (f k w : Bool) (m : ℕ) (bs cs : List ℕ) → (k ≡ true → bs ≡ cs) → audited f k w m bs ≡ audited f k w m cs
+audited-alike f true w m bs cs h = ap (audited f true w m) (h refl)
+audited-alike true false w m bs cs h = refl
+audited-alike false false w m bs cs h = refl
 
 module _ {A : Labels} (p : A .Tag) (G : TagLaws A p) (O : OrderLaws A) (T : Tables A) (L : TableLaws T) where
   abbrev H : Hidden A
@@ -155,7 +153,7 @@ module _ {A : Labels} (p : A .Tag) (G : TagLaws A p) (O : OrderLaws A) (T : Tabl
       start : Alike T H D t u
       start = differ-alike T O L H D W t u f (and-left (T .formed u) _ (s .right)) (s .tables) (nobody-drops p G T O L t f (s .undroppable))
 
-      audits : (i : ℕ) → hiddenAt T H (final (step T) t cs) i ≡ false → (buf buf′ : List ℕ) → length buf ≡ length buf′ → AuditsAlike T H t u cs ds i buf buf′
+      audits : (i : ℕ) → hiddenAt T H (final (step T) t cs) i ≡ false → (buf buf′ : List ℕ) → length buf ≡ length buf′ → AuditsAlike T t u cs ds i buf buf′
       audits i h buf buf′ n = record { outcome = ap (λ (r : Outcome × List ℕ). r .0) whole; part = ap (λ (r : Outcome × List ℕ). r .1) whole }
         where
           x : T .Table
@@ -176,11 +174,11 @@ module _ {A : Labels} (p : A .Tag) (G : TagLaws A p) (O : OrderLaws A) (T : Tabl
               ∙ sym (records-shown O T l u ds)
               ∙ ap (λ (z : Slot A). shownOf A (z .sec) (recordsIn A (length (records T u ds) / recordSize A) (records T u ds))) (ends .slots i)
 
-          whole : auditOf (T .formed x) (isProgram (at T x i .kind)) (eqb (length (records T t cs) % recordSize A) 0) (length buf) (auditable T x i (records T t cs))
-              ≡ auditOf (T .formed y) (isProgram (at T y i .kind)) (eqb (length (records T u ds) % recordSize A) 0) (length buf′) (auditable T y i (records T u ds))
+          whole : audited (T .formed x) (isProgram (at T x i .kind)) (eqb (length (records T t cs) % recordSize A) 0) (length buf) (auditable T x i (records T t cs))
+              ≡ audited (T .formed y) (isProgram (at T y i .kind)) (eqb (length (records T u ds) % recordSize A) 0) (length buf′) (auditable T y i (records T u ds))
           whole =
               let f : T .formed x ≡ T .formed y = ends .left ∙ sym (ends .right) in
               let k : at T x i .kind ≡ at T y i .kind = ap (λ (z : Slot A). z .kind) (ends .slots i) in
               let w : length (records T t cs) % recordSize A ≡ length (records T u ds) % recordSize A = records-whole O T t cs ∙ sym (records-whole O T u ds) in
-              auditOf-alike (T .formed x) (isProgram (at T x i .kind)) (eqb (length (records T t cs) % recordSize A) 0) (length buf) _ _ shown
-              ∙ (λ z. auditOf (f z) (isProgram (k z)) (eqb (w z) 0) (n z) (auditable T y i (records T u ds)))
+              audited-alike (T .formed x) (isProgram (at T x i .kind)) (eqb (length (records T t cs) % recordSize A) 0) (length buf) _ _ shown
+              ∙ (λ z. audited (f z) (isProgram (k z)) (eqb (w z) 0) (n z) (auditable T y i (records T u ds)))

@@ -14,7 +14,7 @@ use Rattle.rules.specs.declared.Kind.the-variants.{Free, Item, Program}
 use Rattle.rules.specs.declared.Outcome.{Outcome}
 use Rattle.rules.specs.declared.Outcome.the-variants.{Allowed, Refused}
 use Rattle.rules.specs.Labels.{Labels}
-use Rattle.rules.specs.Table.{isFree, isItem, isProgram, Slot, Tables, noRights, free, rightless, kindFormed, slotFormed, at}
+use Rattle.rules.specs.Table.{isFree, isItem, isProgram, Rights, Slot, Tables, noRights, free, rightless, kindFormed, slotFormed, at}
 use Rattle.rules.specs.Calls.{Call, put, show, send, fetch, addTag, dropTag, create, release, hand, callerOf, otherOf, newKind, created, target, written}
 use Rattle.rules.specs.Refusals.{Refusals, _if_else_, first, onAllowed, refusals, verdict, step}
 use Rattle.rules.specs.Laws.{OrderLaws, TableLaws}
@@ -39,16 +39,16 @@ calls k e = not-false (isProgram k) e
 -- ---- slots in form
 
 module _ {A : Labels} where
-  program-formed : (k : Kind) (e : Slot A) → isProgram k ≡ true → kindFormed k e ≡ true
-  program-formed Free e p = cc
-  program-formed Item e p = cc
-  program-formed Program e p = refl
+  program-formed : (k : Kind) (s i : A .Label) (r : Rights A) (n : ℕ) → isProgram k ≡ true → kindFormed k s i r n ≡ true
+  program-formed Free s i r n p = cc
+  program-formed Item s i r n p = cc
+  program-formed Program s i r n p = refl
 
   -- an entity with the same rights is in form
-  entity-formed : (k : Kind) (e f : Slot A) → isFree k ≡ false → e .rights ≡ f .rights → kindFormed k e ≡ true → kindFormed k f ≡ true
-  entity-formed Free e f n r h = cc
-  entity-formed Item e f n r h = ap rightless (sym r) ∙ h
-  entity-formed Program e f n r h = refl
+  entity-formed : (k : Kind) (s i : A .Label) (r : Rights A) (n m : ℕ) → isFree k ≡ false → kindFormed k s i r n ≡ true → kindFormed k s i r m ≡ true
+  entity-formed Free s i r n m q h = cc
+  entity-formed Item s i r n m q h = h
+  entity-formed Program s i r n m q h = refl
 
   short : (e : Slot A) → slotFormed e ≡ true → leb (length (e .content)) 64 ≡ true
   short e h = and-left (leb (length (e .content)) 64) _ h
@@ -60,25 +60,26 @@ module _ {A : Labels} where
     pub free-formed : slotFormed (free {A = A}) ≡ true
     free-formed = rw (O .same-refl (A .empty))
 
-    new-formed : (z : Bool) (e : Slot A) → e .rights ≡ noRights → kindFormed (cond z Item Program) e ≡ true
-    new-formed true e r = ap rightless r ∙ none-rightless
-    new-formed false e r = refl
+    new-formed : (z : Bool) (s i : A .Label) → kindFormed {A = A} (cond z Item Program) s i noRights 0 ≡ true
+    new-formed true s i = none-rightless
+    new-formed false s i = refl
 
     module _ (gs : List (A .Group)) (a b : Slot A) (h : slotFormed a ≡ true) (k : slotFormed b ≡ true) where
       -- the caller's slot with other labels or another short content
       caller-formed : (e : Slot A) → a .kind ≡ e .kind → not (isProgram (a .kind)) ≡ false → leb (length (e .content)) 64 ≡ true → slotFormed e ≡ true
-      caller-formed e q p l = both _ _ l (program-formed (e .kind) e (ap isProgram (sym q) ∙ calls (a .kind) p))
+      caller-formed e q p l = both _ _ l (program-formed (e .kind) (e .sec) (e .int) (e .rights) (length (e .content)) (ap isProgram (sym q) ∙ calls (a .kind) p))
 
       pub written-formed : (c : Call A) → ((n : ℕ) → condition n (refusals gs a b c) ≡ false) → slotFormed (written a b c) ≡ true
       written-formed (put i bs) r = caller-formed (written a b (put i bs)) refl (r 1) (le-leb _ _ (ltb-false 64 (length bs) (r 5)))
       written-formed (show i buf) r = h
-      written-formed (send i j) r = both _ _ (short a h) (entity-formed (b .kind) b (written a b (send i j)) (r 3) refl (and-right (leb (length (b .content)) 64) _ k))
+      written-formed (send i j) r = both _ _ (short a h) (entity-formed (b .kind) (b .sec) (b .int) (b .rights) (length (b .content)) (length (a .content)) (r 3) (and-right (leb (length (b .content)) 64) _ k))
       written-formed (fetch i j) r = caller-formed (written a b (fetch i j)) refl (r 1) (short b k)
       written-formed (addTag i n p) r = caller-formed (written a b (addTag i n p)) refl (r 1) (short a h)
       written-formed (dropTag i n p) r = caller-formed (written a b (dropTag i n p)) refl (r 1) (short a h)
-      written-formed (create i j n) r = new-formed (eqb n 1) (created n a) refl
+      written-formed (create i j n) r = new-formed (eqb n 1) (a .sec) (a .int)
       written-formed (release i j) r = free-formed
-      written-formed (hand i j n p) r = both _ _ (short b k) (program-formed (b .kind) (written a b (hand i j n p)) (program-left (b .kind) (r 3) (r 9)))
+      written-formed (hand i j n p) r = both _ _ (short b k)
+          (program-formed (b .kind) (b .sec) (b .int) (written a b (hand i j n p) .rights) (length (b .content)) (program-left (b .kind) (r 3) (r 9)))
 
 -- ---- a call on a table in form
 

@@ -17,7 +17,7 @@ use Rattle.rules.specs.Table.{isFree, isProgram, Slot, Tables, at}
 use Rattle.rules.specs.Calls.{Call, put, show, send, fetch, addTag, dropTag, create, release, hand, fieldsOf, kindOf, callerOf, otherOf, target, written, moved, lent}
 use Rattle.rules.specs.Refusals.{first, numberOf, onAllowed, refusals, verdict, step}
 use Rattle.rules.specs.Record.{Answer, filled, recordOf, needOf, movedBy, answer}
-use Rattle.rules.specs.Runs.{Hidden, hides, SlotsDiffer, TablesDiffer, hiddenAt, struck, heard, final, trace, kept}
+use Rattle.rules.specs.Runs.{Hidden, hides, SlotsAgree, TablesAgree, hiddenAt, struck, heard, final, trace, kept}
 use Rattle.rules.specs.Laws.{OrderLaws, TableLaws}
 use Rattle.rules.specs.Claims.{RunsAlike}
 use Rattle.rules.proofs.Facts.{and-left, and-right}
@@ -28,7 +28,7 @@ use Rattle.rules.proofs.Hiding.{Guard, safely, HidingLaws, low, struckB
 -- ---- slots that differ only in a hidden content look alike
 
 module _ {A : Labels} (H : Hidden A) where
-  slots-low : (i : ℕ) (x y : Slot A) → SlotsDiffer H i x y → low H i x ≡ low H i y
+  slots-low : (i : ℕ) (x y : Slot A) → SlotsAgree H i x y → low H i x ≡ low H i y
   slots-low i x y d =
       let k = d .kind in let e = d .sec in let f = d .int in let r = d .rights in let c = go (hides H i x) refl in
       λ z. record { kind = k z; sec = e z; int = f z; rights = r z; content = c z }
@@ -37,7 +37,7 @@ module _ {A : Labels} (H : Hidden A) where
       go true e = rw (← d .sec, ← d .int, e)
       go false e = rw (← d .sec, ← d .int, e) (d .content e)
 
-  low-slots : (i : ℕ) (x y : Slot A) → low H i x ≡ low H i y → SlotsDiffer H i x y
+  low-slots : (i : ℕ) (x y : Slot A) → low H i x ≡ low H i y → SlotsAgree H i x y
   low-slots i x y e = record {
     kind = ap (λ (z : Slot A). z .kind) e;
     sec = ap (λ (z : Slot A). z .sec) e;
@@ -232,5 +232,5 @@ module _ {A : Labels} (T : Tables A) (O : OrderLaws A) (L : TableLaws T) (H : Hi
       }
 
   -- tables that differ only in hidden contents look alike, where they are in form and safe
-  pub differ-alike : (t u : T .Table) → T .formed t ≡ true → T .formed u ≡ true → TablesDiffer T H t u → ((i : ℕ) → safely G i (at T t i) ≡ true) → Alike T H G t u
+  pub differ-alike : (t u : T .Table) → T .formed t ≡ true → T .formed u ≡ true → TablesAgree T H t u → ((i : ℕ) → safely G i (at T t i) ≡ true) → Alike T H G t u
   differ-alike t u f g d s = record { left = f; right = g; groups = d .groups; slots = λ i. slots-low H i (at T t i) (at T u i) (d .slots i); safe = s }

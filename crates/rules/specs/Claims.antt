@@ -3,7 +3,7 @@
 use mathlib.Core.Path.{_≡_}
 use mathlib.Core.Bool.{Bool, true, false, not, _&&_, _||_}
 use mathlib.Core.List.{List, []}
-use Prim.Native.Nat.{ℕ}
+use Prim.Native.Nat.{ℕ, _≤_}
 use lib.Dec.{ltb, leb, eqb}
 use lib.ListN.{length, getD}
 use Rattle.rules.specs.declared.Outcome.{Outcome}
@@ -13,16 +13,19 @@ use Rattle.rules.specs.Table.{isProgram, Tables, at, accepted}
 use Rattle.rules.specs.Calls.{Call, callerOf, otherOf, lent}
 use Rattle.rules.specs.Refusals.{verdict, step}
 use Rattle.rules.specs.Record.{answer, visible, audit}
-use Rattle.rules.specs.Runs.{Hidden, bears, final, trace, kept, TablesDiffer, hiddenAt, struck, heard, records}
+use Rattle.rules.specs.Runs.{Hidden, bears, final, trace, kept, TablesAgree, hiddenAt, struck, heard, records}
 
--- the numbers of a call's refusals: 1 to 11 and 99
+-- the numbers of a call's refusals, 1 to 11 and 99, and of an audit's
 abbrev pub listed : ℕ → Bool
 listed n = (ltb 0 n && leb n 11) || eqb n 99
+
+abbrev pub auditListed : ℕ → Bool
+auditListed n = eqb n 99 || (eqb n 1 || (eqb n 12 || eqb n 13))
 
 module _ {A : Labels} (T : Tables A) where
   -- ---- Demand 1
 
-  -- A refusal has a listed number, which stands in the record; the table and the lent buffer hold what they held, no
+  -- A refused call has a listed number, which stands in its record; the table and the lent buffer hold what they held, no
   -- bytes moved, and the part is empty
   pub record Unmoved (t : T .Table) (c : Call A) (n : ℕ) : Type 0 where
     pub number : listed n ≡ true
@@ -35,11 +38,32 @@ module _ {A : Labels} (T : Tables A) where
   abbrev pub RefusalsMoveNothing : Type 0
   RefusalsMoveNothing = (t : T .Table) (c : Call A) (n : ℕ) → verdict T t c ≡ Refused n → Unmoved t c n
 
+  -- A refused audit has a listed number, leaves its buffer and hands back an empty part
+  pub record AuditUnmoved (t : T .Table) (i : ℕ) (list buf : List ℕ) (n : ℕ) : Type 0 where
+    pub number : auditListed n ≡ true
+    pub buffer : audit T t i list buf .buffer ≡ buf
+    pub part : audit T t i list buf .part ≡ []
+
+  abbrev pub RefusedAuditsMoveNothing : Type 0
+  RefusedAuditsMoveNothing = (t : T .Table) (i : ℕ) (list buf : List ℕ) (n : ℕ) → audit T t i list buf .outcome ≡ Refused n → AuditUnmoved t i list buf n
+
+  -- The part that show or an audit hands back fits the lent buffer, which keeps its length
+  pub record PartsFit : Type 0 where
+    pub call-part : (t : T .Table) (c : Call A) → length (answer T t c .part) ≤ length (lent c)
+    pub call-buffer : (t : T .Table) (c : Call A) → length (answer T t c .buffer) ≡ length (lent c)
+    pub audit-part : (t : T .Table) (i : ℕ) (list buf : List ℕ) → length (audit T t i list buf .part) ≤ length buf
+    pub audit-buffer : (t : T .Table) (i : ℕ) (list buf : List ℕ) → length (audit T t i list buf .buffer) ≡ length buf
+
   -- ---- Demand 2
 
-  -- No sequence of calls takes an accepted table to one that is not: the form is kept, and no entity breaks a group
+  -- No sequence of calls takes an accepted table to one that is not: the form is kept, and no entity breaks a group, the
+  -- groups being those of the start
+  pub record Kept (t u : T .Table) : Type 0 where
+    pub accepted : accepted T u ≡ true
+    pub groups : T .groups u ≡ T .groups t
+
   abbrev pub StaysAccepted : Type 0
-  StaysAccepted = (t : T .Table) (cs : List (Call A)) → accepted T t ≡ true → accepted T (final (step T) t cs) ≡ true
+  StaysAccepted = (t : T .Table) (cs : List (Call A)) → accepted T t ≡ true → Kept t (final (step T) t cs)
 
   -- A record shows to exactly those whose S takes in the S of its caller, before and after the call, and of its other
   -- (003, section 6.4); one of refusal 1 or 99, to everybody
@@ -54,12 +78,11 @@ module _ {A : Labels} (T : Tables A) where
   -- What two runs have in common for those from whom something is hidden: the tables at the end differ only in hidden
   -- contents, and the answers to callers who are not hidden are the same, in order
   pub record RunsAlike (H : Hidden A) (t u : T .Table) (cs ds : List (Call A)) : Type 0 where
-    pub tables : TablesDiffer T H (final (step T) t cs) (final (step T) u ds)
+    pub tables : TablesAgree T H (final (step T) t cs) (final (step T) u ds)
     pub answers : trace (step T) (heard T H) t cs ≡ trace (step T) (heard T H) u ds
 
-  -- An audit by a caller who is not hidden, with each run's end table and its own full list of records, into buffers of
-  -- one length: the number and the part are the same
-  pub record AuditsAlike (H : Hidden A) (t u : T .Table) (cs ds : List (Call A)) (i : ℕ) (buf buf′ : List ℕ) : Type 0 where
+  -- Caller i's audit, with each run's end table and its own full list of records: the number and the part are the same
+  pub record AuditsAlike (t u : T .Table) (cs ds : List (Call A)) (i : ℕ) (buf buf′ : List ℕ) : Type 0 where
     pub outcome : audit T (final (step T) t cs) i (records T t cs) buf .outcome ≡ audit T (final (step T) u ds) i (records T u ds) buf′ .outcome
     pub part : audit T (final (step T) t cs) i (records T t cs) buf .part ≡ audit T (final (step T) u ds) i (records T u ds) buf′ .part
 
@@ -70,14 +93,15 @@ module _ {A : Labels} (T : Tables A) where
     pub left : accepted T t ≡ true
     pub right : accepted T u ≡ true
     pub undroppable : (i : ℕ) → isProgram (at T t i .kind) ≡ true → A .has (at T t i .rights .sd) p ≡ false
-    pub tables : TablesDiffer T (bears A p) t u
+    pub tables : TablesAgree T (bears A p) t u
     pub calls : kept (step T) (struck T (bears A p)) t cs ≡ kept (step T) (struck T (bears A p)) u ds
 
-  -- Nobody without the tag learns anything
+  -- Nobody without the tag learns anything: not from the tables and answers, and not from an audit, into buffers of one
+  -- length, by a caller who is without it in the end tables (their labels are the same)
   pub record Undisclosed (p : A .Tag) (t u : T .Table) (cs ds : List (Call A)) : Type 0 where
     pub runs : RunsAlike (bears A p) t u cs ds
     pub audits : (i : ℕ) → hiddenAt T (bears A p) (final (step T) t cs) i ≡ false
-        → (buf buf′ : List ℕ) → length buf ≡ length buf′ → AuditsAlike (bears A p) t u cs ds i buf buf′
+        → (buf buf′ : List ℕ) → length buf ≡ length buf′ → AuditsAlike t u cs ds i buf buf′
 
   abbrev pub Secrecy : A .Tag → Type 0
   Secrecy p = (t u : T .Table) (cs ds : List (Call A)) → SecretRuns p t u cs ds → Undisclosed p t u cs ds

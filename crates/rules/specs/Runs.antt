@@ -47,8 +47,8 @@ module _ {A : Labels} where
   abbrev pub hides : Hidden A → ℕ → Slot A → Bool
   hides H i e = H i (e .sec) (e .int)
 
-  -- Two slots differ only in the content of a hidden entity
-  pub record SlotsDiffer (H : Hidden A) (i : ℕ) (x y : Slot A) : Type 0 where
+  -- Two slots agree but for the content of a hidden entity
+  pub record SlotsAgree (H : Hidden A) (i : ℕ) (x y : Slot A) : Type 0 where
     pub kind : x .kind ≡ y .kind
     pub sec : x .sec ≡ y .sec
     pub int : x .int ≡ y .int
@@ -56,9 +56,9 @@ module _ {A : Labels} where
     pub content : hides H i x ≡ false → x .content ≡ y .content
 
 module _ {A : Labels} (T : Tables A) (H : Hidden A) where
-  -- Two tables differ only in the contents of hidden entities
-  pub record TablesDiffer (t u : T .Table) : Type 0 where
-    pub slots : (i : ℕ) → SlotsDiffer H i (at T t i) (at T u i)
+  -- Two tables differ only in the contents of hidden entities: free slots, kinds, all sets, groups and other contents agree
+  pub record TablesAgree (t u : T .Table) : Type 0 where
+    pub slots : (i : ℕ) → SlotsAgree H i (at T t i) (at T u i)
     pub groups : T .groups t ≡ T .groups u
 
   -- slot i holds a hidden entity; a free or too high slot holds none

@@ -87,13 +87,17 @@ module _ {A : Labels} where
   abbrev pub rightless : Rights A → Bool
   rightless r = isEmpty A (r .sa) && (isEmpty A (r .sd) && (isEmpty A (r .ia) && isEmpty A (r .id)))
 
-  abbrev pub kindFormed : Kind → Slot A → Bool
-  kindFormed Free e = (isEmpty A (e .sec) && isEmpty A (e .int)) && (rightless (e .rights) && eqb (length (e .content)) 0)
-  kindFormed Item e = rightless (e .rights)
-  kindFormed Program e = true
+  -- by its kind, S, I, rights and number of bytes
+  abbrev pub kindFormed : Kind → A .Label → A .Label → Rights A → ℕ → Bool
+  kindFormed Free s i r n = (isEmpty A s && isEmpty A i) && (rightless r && eqb n 0)
+  kindFormed Item s i r n = rightless r
+  kindFormed Program s i r n = true
+
+  abbrev pub partsFormed : Kind → A .Label → A .Label → Rights A → ℕ → Bool
+  partsFormed k s i r n = leb n 64 && kindFormed k s i r n
 
   abbrev pub slotFormed : Slot A → Bool
-  slotFormed e = leb (length (e .content)) 64 && kindFormed (e .kind) e
+  slotFormed e = partsFormed (e .kind) (e .sec) (e .int) (e .rights) (length (e .content))
 
 -- ---- tables
 

@@ -1,4 +1,4 @@
--- Document 01, cases P1 to P14: a table, a call on it, the number returned and the bytes moved.
+-- Document 01, cases P1 to P14: a table, a call on it, the number returned and the bytes moved. And its watering round.
 -- Assumes nothing.
 use mathlib.Core.Path.{_≡_}
 use mathlib.Core.Bool.{Bool, true, cond}
@@ -6,13 +6,15 @@ use mathlib.Core.List.{List, [], _∷_, map}
 use Prim.Native.Nat.{ℕ, _^_}
 use lib.Dec.{eqb}
 use lib.ListN.{getD, replicate}
-use Rattle.rules.specs.declared.Kind.the-variants.{Program}
-use Rattle.rules.specs.Table.{Slot, Plain, plain, free, accepted}
-use Rattle.rules.specs.Calls.{Call, put, show, send, addTag, dropTag, hand}
+use Rattle.rules.specs.declared.Kind.the-variants.{Item, Program}
+use Rattle.rules.specs.Table.{Slot, Plain, plain, noRights, free, accepted}
+use Rattle.rules.specs.Calls.{Call, put, show, send, fetch, addTag, dropTag, hand}
+use Rattle.rules.specs.Refusals.{step}
 use Rattle.rules.specs.Record.{answer}
+use Rattle.rules.specs.Runs.{trace}
 use Rattle.label.specs.declared.Label.{Label}
 use Rattle.label.specs.Tags.{labelOf, empty}
 use Rattle.label.specs.Words.{words}
 
 pub record Case : Type 0 where
   pub table : Plain words
@@ -60,21 +62,60 @@ cases =
     ∷ record { table = hub [] (labelled empty empty three) free; call = show 0 (replicate 3 0); number = 0; count = 3 }
     ∷ []
 
--- A case holds when its table is accepted and the call's record says the number and the bytes moved
-pub record Outcomes : Type 0 where
+-- what a case is about: whether its table is accepted, and what the call's record says in bytes 3 and 4
+pub record Result : Type 0 where
   pub accepted : Bool
   pub number : ℕ
   pub count : ℕ
 
-abbrev pub given : Case → Outcomes
+abbrev pub given : Case → Result
 given k = record {
   accepted = accepted (plain words) (k .table);
   number = getD (answer (plain words) (k .table) (k .call) .entry) 3 0;
   count = getD (answer (plain words) (k .table) (k .call) .entry) 4 0;
 }
 
-abbrev pub stated : Case → Outcomes
+abbrev pub stated : Case → Result
 stated k = record { accepted = true; number = k .number; count = k .count }
 
+-- Each table is accepted, and each call gives the stated number and bytes moved
 abbrev pub CasesHold : Type 0
 CasesHold = map given cases ≡ map stated cases
+
+-- ---- 'A watering round through hubcalls': its table, its calls, the records it prints and the bytes that show shows
+
+abbrev item : List ℕ → Slot words
+item bs = record { kind = Item; sec = empty; int = empty; rights = noRights; content = bs }
+
+abbrev pub roundTable : Plain words
+roundTable = record {
+  slots = λ i.
+      cond (eqb i 0) (labelled (labelOf 1) empty (0xa1 ∷ 0xb2 ∷ []))
+      (cond (eqb i 1) (program empty empty (labelOf 1) empty [])
+      (cond (eqb i 2) (item (7 ∷ [])) free));
+  groups = labelOf 3 ∷ [];
+}
+
+abbrev pub roundCalls : List (Call words)
+roundCalls = fetch 1 0 ∷ addTag 1 0 0 ∷ fetch 1 0 ∷ show 1 (replicate 64 0) ∷ send 1 2 ∷ dropTag 1 0 0 ∷ []
+
+-- a record of the round: kind, other, number, bytes moved, tag, set field; the caller is 1 and the need {0}
+abbrev line : ℕ → ℕ → ℕ → ℕ → ℕ → ℕ → List ℕ
+line k o n m t s = k ∷ 1 ∷ o ∷ n ∷ m ∷ t ∷ s ∷ 0 ∷ 1 ∷ 0 ∷ 0 ∷ 0 ∷ 0 ∷ 0 ∷ 0 ∷ 0 ∷ []
+
+abbrev pub roundRecords : List (List ℕ)
+roundRecords =
+    line 4 0 7 0 0xff 0xff
+    ∷ line 5 0xff 0 0 0 0
+    ∷ line 4 0 0 2 0xff 0xff
+    ∷ line 2 0xff 0 2 0xff 0xff
+    ∷ line 3 2 7 0 0xff 0xff
+    ∷ line 6 0xff 0xa 0 0 0
+    ∷ []
+
+abbrev pub roundShown : List ℕ
+roundShown = 0xa1 ∷ 0xb2 ∷ []
+
+pub record RoundHolds : Type 0 where
+  pub records : trace (step (plain words)) (λ t c. answer (plain words) t c .entry ∷ []) roundTable roundCalls ≡ roundRecords
+  pub shown : trace (step (plain words)) (λ t c. answer (plain words) t c .part) roundTable roundCalls ≡ roundShown

@@ -2,17 +2,23 @@
 -- Assumes nothing.
 use Prim.Native.Nat.{ℕ, _<_}
 use Rattle.rules.specs.Table.{plain}
-use Rattle.rules.specs.Claims.{RefusalsMoveNothing, StaysAccepted, RecordsShow, Secrecy}
-use Rattle.rules.proofs.Refused.{refusals-move-nothing}
+use Rattle.rules.specs.Claims.{RefusalsMoveNothing, RefusedAuditsMoveNothing, PartsFit, StaysAccepted, RecordsShow, Secrecy}
+use Rattle.rules.proofs.Refused.{refusals-move-nothing, refused-audits-move-nothing, parts-fit}
 use Rattle.rules.proofs.Groups.{stays-accepted}
 use Rattle.rules.proofs.Shows.{records-show}
 use Rattle.rules.proofs.Secrecy.{secrecy}
 use Rattle.rules.proofs.Plain.{plain-laws}
 use Rattle.label.specs.Words.{words}
 use Rattle.label.proofs.Words.{words-order, words-tag}
 
 pub words-refusals : RefusalsMoveNothing (plain words)
 words-refusals = refusals-move-nothing (plain words)
+
+pub words-audits : RefusedAuditsMoveNothing (plain words)
+words-audits = refused-audits-move-nothing (plain words)
+
+pub words-parts : PartsFit (plain words)
+words-parts = parts-fit (plain words)
 
 pub words-accepted : StaysAccepted (plain words)
 words-accepted = stays-accepted words-order (plain words) (plain-laws words)
