@@ -1,0 +1,5 @@
+pub mod Lists
+pub mod Groups
+pub mod Form
+pub mod Finish
+pub mod Written
