@@ -3,3 +3,7 @@ pub mod Groups
 pub mod Form
 pub mod Finish
 pub mod Written
+pub mod Audit
+pub mod Shown
+pub mod Audited
+pub mod Claims
