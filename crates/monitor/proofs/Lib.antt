@@ -4,6 +4,8 @@ pub mod Form
 pub mod Finish
 pub mod Written
 pub mod Audit
-pub mod Shown
-pub mod Audited
+pub mod ShowLaws
+pub mod AuditLaws
+pub mod And
+pub mod Share
 pub mod Claims
