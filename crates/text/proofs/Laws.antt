@@ -17,7 +17,7 @@ use borrow.Author.Tests.{eq-eqb, ne-eqb, lt-ltb, le-ltb, le-leb, lt-leb}
 use Rattle.label.specs.declared.Label.{Label}
 use Rattle.label.specs.Tags.{empty, withDigit}
 use Rattle.text.specs.Bytes.{eqBytes, indexOf, digitOf, decimalFrom, decimalOf, setFrom, setOf, pairsFrom, dataOf, dash}
-use Rattle.text.specs.Lines.{Lines, done, cut, line, before, linesOf, lineEnd, lineAt, ahead, fieldsOf, hasName, hasNames, under}
+use Rattle.text.specs.Lines.{Lines, done, cut, line, before, linesOf, lineEnd, lineAt, nextLine, ahead, fieldsOf, hasName, hasNames, under}
 use Rattle.text.specs.Answers.{room, noRoom}
 
 -- what is left of a list at a place before its end: that element, and what is left at the next place
@@ -473,3 +473,23 @@ line-none text at h = rw (at-end text at h) (take-nil (indexOf 10 []))
 
 pub lines-end : (text : List ℕ) (at : ℕ) → length text ≤ at → linesOf (drop at text) ≡ done
 lines-end text at h = lines-done (drop at text) (omega (arith, length-drop at text))
+
+-- a place with a line: where the next one is, and what is left of the text's lines
+pub record Line (text : List ℕ) (at next : ℕ) : Type 0 where
+  pub later : at < next
+  pub within : next ≤ length text
+  pub is : linesOf (drop at text) ≡ line (lineAt text at) (linesOf (drop next text))
+
+module _ (text : List ℕ) (at : ℕ) where
+  pub next-whole : lineEnd text at < length text → nextLine text at ≡ lineEnd text at + 1
+  unfolding nextLine
+  next-whole h = rw (lt-ltb _ _ h)
+
+  pub next-none : length text ≤ lineEnd text at → nextLine text at ≡ lineEnd text at
+  unfolding nextLine
+  next-none h = rw (le-ltb _ _ h)
+
+  pub line-here : (e : ℕ) → e ≡ lineEnd text at → at ≤ length text → e < length text → Line text at (e + 1)
+  line-here e q h k =
+      let l = line-ends text at e h q in
+      record { later = omega arith; within = omega arith; is = l .whole k ∙ ap (λ (x : List ℕ). line x (linesOf (drop (e + 1) text))) (line-part text at e q) }

@@ -4,7 +4,7 @@ use Prim.Native.Nat.{ℕ, zero, suc, _+_}
 use mathlib.Core.Bool.{Bool, true, false, cond, _&&_}
 use mathlib.Core.List.{List, [], _∷_}
 use lib.ListN.{length, take, drop}
-use lib.Dec.{eqb}
+use lib.Dec.{eqb, ltb}
 use Rattle.text.specs.Bytes.{eqBytes, indexOf}
 
 -- A text is whole lines, each of which byte 10 ends, and then its end, or a last line without byte 10
@@ -30,6 +30,10 @@ lineEnd text at = at + indexOf 10 (drop at text)
 -- the line at a place
 unfoldable pub lineAt : List ℕ → ℕ → List ℕ
 lineAt text at = take (indexOf 10 (drop at text)) (drop at text)
+
+-- the place of the next line: after the byte 10 that ends the line at a place, or where the text ends
+unfoldable pub nextLine : List ℕ → ℕ → ℕ
+nextLine text at = cond (ltb (lineEnd text at) (length text)) (lineEnd text at + 1) (lineEnd text at)
 
 -- ---- the fields of a line, with one space between them
 

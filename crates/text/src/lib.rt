@@ -6,7 +6,7 @@ ghost use mathlib.Core.Option.{none, some};
 ghost use lib.ListN.{length};
 ghost use Rattle.label.specs.Tags.{empty};
 ghost use Rattle.text.specs.Bytes.{eqBytes, indexOf, digitOf, decimalFrom, decimalOf, setFrom, setOf, pairsFrom, dataOf};
-ghost use Rattle.text.specs.Lines.{lineEnd, lineAt, fieldsOf, hasName, hasNames, namesOnce, under};
+ghost use Rattle.text.specs.Lines.{lineEnd, lineAt, nextLine, fieldsOf, hasName, hasNames, namesOnce, under};
 ghost use Rattle.text.specs.Answers.{asNumber, asTags, asData, noRoom};
 use label::Label;
 
@@ -324,4 +324,15 @@ pub fn line_at<'a>(text: &'a [u8], at: usize) -> &'a [u8]
     }
     let end = line_end(text, at);
     &text[at..end]
+}
+
+// The place of the line after the one at a place; the text's end, or a place beyond it, where there is none.
+pub fn next_line(text: &[u8], at: usize) -> usize
+    ensures { λ r. ⌜ r ≡ nextLine (now (text .entry)) at ⌝ }
+{
+    let end = line_end(text, at);
+    if end < text.len() {
+        return end + 1;
+    }
+    end
 }
