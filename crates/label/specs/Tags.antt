@@ -43,6 +43,10 @@ withIn k a t = setOf k (λ n. cond (eqb n t) 1 (tagOf a n))
 unfoldable pub withoutIn : ℕ → ℕ → ℕ → ℕ
 withoutIn k a t = setOf k (λ n. cond (eqb n t) 0 (tagOf a n))
 
+-- a with the hexadecimal digit d after its own: its tags stand four higher, those of d below them, and only k are kept
+unfoldable pub digitIn : ℕ → ℕ → ℕ → ℕ
+digitIn k a d = (a * 16 + d % 16) % 2 ^ k
+
 -- how many tags a and b have in common
 unfoldable pub commonIn : ℕ → ℕ → ℕ → ℕ
 commonIn k a b = sumOf k (λ n. min (tagOf a n) (tagOf b n))
@@ -85,6 +89,9 @@ withTag a t = labelOf (withIn 64 (a .bits) t)
 
 unfoldable pub withoutTag : Label → ℕ → Label
 withoutTag a t = labelOf (withoutIn 64 (a .bits) t)
+
+unfoldable pub withDigit : Label → ℕ → Label
+withDigit a d = labelOf (digitIn 64 (a .bits) d)
 
 unfoldable pub commonOf : Label → Label → ℕ
 commonOf a b = commonIn 64 (a .bits) (b .bits)

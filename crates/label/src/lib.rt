@@ -1,6 +1,6 @@
 // A label: a set of tags 0 to 63, tag n at weight 2 to the n.
 ghost use mathlib.Core.Path.{_≡_};
-ghost use Rattle.label.specs.Tags.{empty, hasTag, subsetOf, equalOf, isEmpty, unionOf, withTag, withoutTag, commonOf, bytesOf, fromBytes};
+ghost use Rattle.label.specs.Tags.{empty, hasTag, subsetOf, equalOf, isEmpty, unionOf, withTag, withoutTag, withDigit, commonOf, bytesOf, fromBytes};
 
 pub struct Label {
     pub bits: u64,
@@ -73,6 +73,15 @@ pub fn without_tag(l: Label, t: u8) -> Label
         }
     } else {
         l
+    }
+}
+
+// The label with the hexadecimal digit d after its own: its tags four higher, those of d below them.
+pub fn with_digit(l: Label, d: u8) -> Label
+    ensures { λ r. ⌜ r ≡ withDigit l d ⌝ }
+{
+    Label {
+        bits: (l.bits << 4) + ((d % 16) as u64),
     }
 }
 

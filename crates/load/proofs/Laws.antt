@@ -1,0 +1,184 @@
+-- What the definitions of loading say at one line.
+-- Assumes nothing.
+use mathlib.Core.Path.{_≡_, refl, sym, ap, ap₂, _∙_}
+use mathlib.Core.Bool.{Bool, true, false, cond, not, _&&_}
+use mathlib.Core.List.{List, [], _∷_, _++_}
+use mathlib.Core.Option.{Option, none, some}
+use Prim.Native.Nat.{ℕ, _+_, _-_, _≤_, _<_}
+use native.Mathlib.Omega.{arith}
+use lib.Dec.{eqb, ltb}
+use lib.ListN.{length, take, drop, length-drop}
+use lib.Seq.{length-take-le}
+use borrow.Author.Tests.{eq-eqb, ne-eqb, lt-ltb, le-ltb, ltb-true, ltb-false}
+use Rattle.label.specs.declared.Label.{Label}
+use Rattle.text.specs.declared.Tags.{Tags}
+use Rattle.text.specs.declared.Tags.the-variants as Tags
+use Rattle.text.specs.Lines.{Lines, done, cut, line, lineEnd, lineAt, nextLine, namesOnce}
+use Rattle.text.specs.Answers.{asTags}
+use Rattle.text.proofs.Laws.{Over, line-ends, line-part, next-whole, next-none}
+use Rattle.rows.specs.Entities.{Entry, asEntityRow}
+use Rattle.rows.specs.declared.Placed.the-variants as Placed
+use Rattle.rows.specs.declared.EntityRow.{EntityRow}
+use Rattle.entity.specs.declared.Entity.{Entity}
+use Rattle.rules.specs.Calls.{Call, put, show, send, fetch, addTag, dropTag, create, release, hand}
+use Rattle.label.specs.Words.{words}
+use Rattle.rows.specs.Calls.{asCallRow, asAsked}
+use Rattle.rows.specs.declared.Asked.{Asked}
+use Rattle.rows.specs.declared.Asked.the-variants as Asked
+use Rattle.rows.specs.declared.CallRow.{CallRow}
+use Rattle.load.specs.declared.Place.{Place}
+use Rattle.load.specs.Blocks.{bytesPast, linesPast, rowsBad, blockBad, namesAt, rowsAt, isSome}
+
+-- ---- lines
+
+pub length-line : (text : List ℕ) (at e : ℕ) → at ≤ length text → e ≡ lineEnd text at → length (lineAt text at) ≡ e - at
+length-line text at e h q =
+    let l = line-ends text at e h q in
+    ap length (sym (line-part text at e q)) ∙ length-take-le (e - at) (drop at text) (omega (arith, length-drop at text))
+
+pub empty-or : (l : List ℕ) → length l ≡ 0 → l ≡ []
+empty-or [] h = refl
+empty-or (b ∷ l) h = absurd (omega arith)
+
+-- ---- past an empty line
+
+pub past-over : (ls : Lines) → Over ls → (bytesPast ls ≡ 0) × (linesPast ls ≡ 0)
+unfolding bytesPast linesPast
+past-over done h = (refl, refl)
+past-over cut h = (refl, refl)
+past-over (line l ls) h = absurd h
+
+past-empty-of : (l : List ℕ) (ls : Lines) → length l ≡ 0 → (bytesPast (line l ls) ≡ 1) × (linesPast (line l ls) ≡ 1)
+unfolding bytesPast linesPast
+past-empty-of [] ls h = (refl, refl)
+past-empty-of (b ∷ l) ls h = absurd (omega arith)
+
+past-step-of : (l : List ℕ) (ls : Lines) → 0 < length l → (bytesPast (line l ls) ≡ length l + 1 + bytesPast ls) × (linesPast (line l ls) ≡ 1 + linesPast ls)
+unfolding bytesPast linesPast
+past-step-of [] ls h = absurd (omega arith)
+past-step-of (b ∷ l) ls h = (refl, refl)
+
+module _ {all : Lines} {l : List ℕ} {ls : Lines} (w : all ≡ line l ls) where
+  pub past-empty : length l ≡ 0 → (bytesPast all ≡ 1) × (linesPast all ≡ 1)
+  past-empty h = rw w (past-empty-of l ls h)
+
+  pub past-step : 0 < length l → (bytesPast all ≡ length l + 1 + bytesPast ls) × (linesPast all ≡ 1 + linesPast ls)
+  past-step h = rw w (past-step-of l ls h)
+
+-- the next line, from where this one ends
+pub next-is : (text : List ℕ) (at e : ℕ) → e ≡ lineEnd text at → e < length text → e + 1 ≡ nextLine text at
+next-is text at e q h = let k : lineEnd text at < length text = rw q at h in ap (λ (x : ℕ). x + 1) q ∙ sym (next-whole text at k)
+
+pub next-within : (text : List ℕ) (at : ℕ) → at ≤ length text → nextLine text at ≤ length text
+next-within text at h = go (ltb (lineEnd text at) (length text)) refl
+  where
+    go : (t : Bool) → ltb (lineEnd text at) (length text) ≡ t → nextLine text at ≤ length text
+    go true e =
+        let k = ltb-true (lineEnd text at) (length text) e in
+        rw (next-whole text at k) (omega arith)
+    go false e = rw (next-none text at (ltb-false (lineEnd text at) (length text) e)) (line-ends text at (lineEnd text at) h refl .high)
+
+-- ---- the rows of a block
+
+module _ (good : ℕ → List ℕ → Bool) (n i : ℕ) where
+  pub rows-over : (ls : Lines) → Over ls → rowsBad good false n i ls ≡ n
+  unfolding rowsBad
+  rows-over done h = refl
+  rows-over cut h = refl
+  rows-over (line l ls) h = absurd h
+
+  pub rows-done : {all : Lines} → all ≡ done → rowsBad good true n i all ≡ 0
+  unfolding rowsBad
+  rows-done w = rw w
+
+  pub rows-cut : {all : Lines} → all ≡ cut → rowsBad good true n i all ≡ n
+  unfolding rowsBad
+  rows-cut w = rw w
+
+  module _ {all : Lines} {l : List ℕ} {ls : Lines} (w : all ≡ line l ls) where
+    pub rows-empty : length l ≡ 0 → rowsBad good false n i all ≡ 0
+    unfolding rowsBad
+    rows-empty h = rw (w, rowsBad, eq-eqb _ _ h)
+
+    pub last-bad : good i l ≡ false → rowsBad good true n i all ≡ n
+    unfolding rowsBad
+    last-bad e = rw (w, rowsBad, e)
+
+    pub last-step : good i l ≡ true → rowsBad good true n i all ≡ rowsBad good true (n + 1) (i + 1) ls
+    unfolding rowsBad
+    last-step e = rw (w, rowsBad, e)
+
+    module _ (h : 0 < length l) where
+      pub rows-bad : good i l ≡ false → rowsBad good false n i all ≡ n
+      unfolding rowsBad
+      rows-bad e = rw (w, rowsBad, ne-eqb (length l) 0 (λ q. omega arith), e)
+
+      pub rows-step : good i l ≡ true → rowsBad good false n i all ≡ rowsBad good false (n + 1) (i + 1) ls
+      unfolding rowsBad
+      rows-step e = rw (w, rowsBad, ne-eqb (length l) 0 (λ q. omega arith), e)
+
+-- ---- a block
+
+module _ (names : List (List ℕ)) (good : List (List ℕ) → ℕ → List ℕ → Bool) (last : Bool) (text : List ℕ) (p : Place) where
+  pub block-none : length text ≤ lineEnd text (p .at) → blockBad names good last text p ≡ p .line
+  unfolding blockBad
+  block-none h = rw (le-ltb _ _ h)
+
+  module _ (h : lineEnd text (p .at) < length text) where
+    pub block-other : namesOnce names (namesAt text p) ≡ false → blockBad names good last text p ≡ p .line
+    unfolding blockBad
+    block-other e = rw (lt-ltb _ _ h, e)
+
+    pub block-names : namesOnce names (namesAt text p) ≡ true
+        → blockBad names good last text p ≡ rowsBad (good (namesAt text p)) last (p .line + 1) 0 (rowsAt text p)
+    unfolding blockBad
+    block-names e = rw (lt-ltb _ _ h, e)
+
+-- ---- whether a row says anything
+
+pub entity-some : (r : EntityRow) (k : ℕ) (x : Entity) (o : Option Entry) → r ≡ asEntityRow o → r .placed ≡ Placed.At k x → isSome o ≡ true
+entity-some r k x none e f = let q = ap (λ (y : EntityRow). y .placed) e in cc
+entity-some r k x (some y) e f = refl
+
+pub entity-none : (r : EntityRow) (o : Option Entry) → r ≡ asEntityRow o → r .placed ≡ Placed.Bad → isSome o ≡ false
+entity-none r none e f = refl
+entity-none r (some y) e f = let q = ap (λ (z : EntityRow). z .placed) e in cc
+
+pub set-some : {r : Tags} {l : Label} (o : Option Label) → r ≡ asTags o → r ≡ Tags.Set l → isSome o ≡ true
+set-some none e f = cc
+set-some (some m) e f = refl
+
+pub set-none : {r : Tags} (o : Option Label) → r ≡ asTags o → r ≡ Tags.Bad → isSome o ≡ false
+set-none none e f = refl
+set-none (some m) e f = cc
+
+abbrev bad : Asked → Bool
+bad (Asked.Put i n) = false
+bad (Asked.Show i) = false
+bad (Asked.Send i j) = false
+bad (Asked.Fetch i j) = false
+bad (Asked.Add i n p) = false
+bad (Asked.Drop i n p) = false
+bad (Asked.Create i j n) = false
+bad (Asked.Release i j) = false
+bad (Asked.Hand i j n p) = false
+bad Asked.Bad = true
+
+pub call-some : (r : CallRow) (a : Asked) (o : Option (Call words)) → bad a ≡ false → r ≡ asCallRow o → r .asked ≡ a → isSome o ≡ true
+call-some r a none b e f = sym b ∙ ap bad (sym f ∙ ap (λ (x : CallRow). x .asked) e)
+call-some r a (some y) b e f = refl
+
+good : (c : Call words) → bad (asAsked c) ≡ false
+good (put i bs) = refl
+good (show i bs) = refl
+good (send i j) = refl
+good (fetch i j) = refl
+good (addTag i n p) = refl
+good (dropTag i n p) = refl
+good (create i j n) = refl
+good (release i j) = refl
+good (hand i j n p) = refl
+
+pub call-none : (r : CallRow) (o : Option (Call words)) → r ≡ asCallRow o → r .asked ≡ Asked.Bad → isSome o ≡ false
+call-none r none e f = refl
+call-none r (some c) e f = ap bad (sym f ∙ ap (λ (x : CallRow). x .asked) e) ∙ good c

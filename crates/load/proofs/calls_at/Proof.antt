@@ -1,0 +1,14 @@
+use mathlib.Core.Path.{_≡_, ap}
+use Rattle.load.specs.declared.Place.{Place}
+use Rattle.load.proofs.calls_at.Statement.{statement}
+use Rattle.load.proofs.calls_at.Tie as tie
+
+-- `load::calls_at` meets its contract. Assumes nothing.
+
+returns : tie.Need-returns
+returns c = ap (λ (p : Place). p .at) (c .calls-from .ensures .0)
+
+pub calls-at-spec : {M : Type 1} → statement M
+calls-at-spec =
+    tie.close
+    (tie.spec (λ _ _. tt) returns)

@@ -1,0 +1,96 @@
+-- Document 01, 'The text': where its blocks stand, and the first line of each that does not have the form.
+-- Assumes nothing.
+use Prim.Native.Nat.{ℕ, _+_}
+use mathlib.Core.Bool.{Bool, true, false, cond, not, _&&_}
+use mathlib.Core.List.{List, [], _∷_}
+use mathlib.Core.Option.{Option, none, some}
+use lib.ListN.{length, drop}
+use lib.Dec.{eqb, ltb}
+use Rattle.text.specs.Bytes.{setOf}
+use Rattle.text.specs.Lines.{Lines, done, cut, line, linesOf, lineEnd, lineAt, nextLine, fieldsOf, namesOnce}
+use Rattle.rows.specs.Names.{entityNames, groupNames, callNames}
+use Rattle.rows.specs.Entities.{entityOf}
+use Rattle.rows.specs.Calls.{callOf}
+use Rattle.load.specs.declared.Place.{Place}
+
+-- ---- places: an empty line stands between a block and the next
+
+-- the bytes and the lines up to the first empty line and past it; of a text without one, its whole lines
+unfoldable pub bytesPast : Lines → ℕ
+bytesPast done = 0
+bytesPast cut = 0
+bytesPast (line [] ls) = 1
+bytesPast (line (b ∷ l) ls) = length (b ∷ l) + 1 + bytesPast ls
+
+unfoldable pub linesPast : Lines → ℕ
+linesPast done = 0
+linesPast cut = 0
+linesPast (line [] ls) = 1
+linesPast (line (b ∷ l) ls) = 1 + linesPast ls
+
+-- the first block is at the text's start
+unfoldable pub start : Place
+start = record { at = 0; line = 1 }
+
+module _ (text : List ℕ) where
+  -- the lines from a place on
+  abbrev pub linesAt : ℕ → Lines
+  linesAt at = linesOf (drop at text)
+
+  unfoldable pub pastEmpty : Place → Place
+  pastEmpty p = record { at = p .at + bytesPast (linesAt (p .at)); line = p .line + linesPast (linesAt (p .at)) }
+
+  -- the second and the third block
+  unfoldable pub groupsAt : Place
+  groupsAt = pastEmpty start
+
+  unfoldable pub callsAt : Place
+  callsAt = pastEmpty groupsAt
+
+  -- a block's names, and the lines after them
+  abbrev pub namesAt : Place → List (List ℕ)
+  namesAt p = fieldsOf (lineAt text (p .at))
+
+  abbrev pub rowsAt : Place → Lines
+  rowsAt p = linesAt (nextLine text (p .at))
+
+-- ---- 15
+
+-- The first bad line of a block's rows, or 0. The next line has number n, and i rows stand before it; a row is tested by
+-- its index and its line. The last block ends with the text, another with an empty line
+module _ (good : ℕ → List ℕ → Bool) (last : Bool) where
+  unfoldable pub rowsBad : ℕ → ℕ → Lines → ℕ
+  rowsBad n i done = cond last 0 n
+  rowsBad n i cut = n
+  rowsBad n i (line l ls) = cond (not last && eqb (length l) 0) 0 (cond (good i l) (rowsBad (n + 1) (i + 1) ls) n)
+
+-- The first bad line of a block, or 0: the names of its columns, each once, and then its rows
+unfoldable pub blockBad : List (List ℕ) → (List (List ℕ) → ℕ → List ℕ → Bool) → Bool → List ℕ → Place → ℕ
+blockBad names good last text p =
+    cond (ltb (lineEnd text (p .at)) (length text) && namesOnce names (namesAt text p))
+    (rowsBad (good (namesAt text p)) last (p .line + 1) 0 (rowsAt text p))
+    (p .line)
+
+abbrev pub isSome : {A : Type 0} → Option A → Bool
+isSome none = false
+isSome (some a) = true
+
+-- a row of the entities; of the groups, at most 8 and each one set; of the calls
+unfoldable pub entityGood : List (List ℕ) → ℕ → List ℕ → Bool
+entityGood hs i l = isSome (entityOf hs (fieldsOf l))
+
+unfoldable pub groupGood : List (List ℕ) → ℕ → List ℕ → Bool
+groupGood hs i l = ltb i 8 && isSome (setOf l)
+
+unfoldable pub callGood : List (List ℕ) → ℕ → List ℕ → Bool
+callGood hs i l = isSome (callOf hs (fieldsOf l))
+
+-- the first number that is not 0
+unfoldable pub orElse : ℕ → ℕ → ℕ
+orElse a b = cond (eqb a 0) b a
+
+-- the first bad line of a text, or 0
+unfoldable pub badLine : List ℕ → ℕ
+badLine text =
+    orElse (blockBad entityNames entityGood false text start)
+    (orElse (blockBad groupNames groupGood false text (groupsAt text)) (blockBad callNames callGood true text (callsAt text)))

@@ -1,0 +1,15 @@
+use mathlib.Core.Path.{refl}
+use Rattle.rows.specs.Entities.{entityFormed}
+use Rattle.rows.proofs.is_formed.Statement.{statement}
+use Rattle.rows.proofs.is_formed.Tie as tie
+
+-- `rows::is_formed` meets its contract. Assumes nothing.
+
+returns : tie.Need-returns
+unfolding entityFormed
+returns c = rw (c .before .is-free .ensures, c .is-formed .ensures)
+
+pub is-formed-spec : {M : Type 1} → statement M
+is-formed-spec =
+    tie.close
+    (tie.spec (λ _ _. tt) (λ _ _. tt) returns)

@@ -1,0 +1,30 @@
+use mathlib.Core.Path.{refl, sym, _∙_}
+use Rattle.rows.specs.Entities.{kindOf}
+use borrow.Author.Needs.{needs}
+use Rattle.rows.proofs.kind_of.Statement.{statement}
+use Rattle.rows.proofs.kind_of.Tie as tie
+
+-- `rows::kind_of` meets its contract. Assumes nothing.
+
+slice-aggregate-same : tie.Need-slice-aggregate-same
+slice-aggregate-same c = search needs
+
+returns : tie.Need-returns
+unfolding kindOf
+returns c = rw (sym (c .before .same .ensures) ∙ c .if1 .taken)
+
+slice-aggregate-same-2 : tie.Need-slice-aggregate-same-2
+slice-aggregate-same-2 c = search needs
+
+returns-2 : tie.Need-returns-2
+unfolding kindOf
+returns-2 c = rw (sym (c .before .before .before .before .same .ensures) ∙ c .before .before .before .if1 .left, sym (c .before .same2 .ensures) ∙ c .if2 .taken)
+
+returns-3 : tie.Need-returns-3
+unfolding kindOf
+returns-3 c = rw (sym (c .before .before .before .before .same .ensures) ∙ c .before .before .before .if1 .left, sym (c .before .same2 .ensures) ∙ c .if2 .left)
+
+pub kind-of-spec : {M : Type 1} → statement M
+kind-of-spec =
+    tie.close
+    (tie.spec slice-aggregate-same (λ _ _. tt) returns slice-aggregate-same-2 (λ _ _. tt) returns-2 returns-3)

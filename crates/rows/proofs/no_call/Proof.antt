@@ -1,0 +1,13 @@
+use mathlib.Core.Path.{refl}
+use Rattle.rows.proofs.no_call.Statement.{statement}
+use Rattle.rows.proofs.no_call.Tie as tie
+
+-- `rows::no_call` meets its contract. Assumes nothing.
+
+returns : tie.Need-returns
+returns c = rw (c .before .no-data .ensures)
+
+pub no-call-spec : {M : Type 1} → statement M
+no-call-spec =
+    tie.close
+    (tie.spec (λ _ _. tt) returns)

@@ -1,0 +1,48 @@
+use Prim.Native.Nat.{_≤_, _-_}
+use mathlib.Core.Path.{_≡_, refl, sym, ap, _∙_}
+use native.Mathlib.Omega.{arith}
+use lib.ListN.{length, drop}
+use Rattle.label.specs.Tags.{empty}
+use Rattle.text.specs.Bytes.{setFrom}
+use Rattle.text.specs.Answers.{asTags}
+use Rattle.text.proofs.Laws.{set-step, set-other, set-end}
+use borrow.Author.Needs.{needs}
+use Rattle.text.proofs.hex_digits.Statement.{statement}
+use Rattle.text.proofs.hex_digits.Tie as tie
+
+-- `text::hex_digits` meets its contract. The loop's invariant: the digits that are left, after the set so far, say what all say. Assumes nothing.
+
+abbrev Inv-loop : tie.InvT-loop
+Inv-loop s l₀ i₀ l i = (i ≤ length s) × (setFrom l (drop i s) ≡ setFrom empty s)
+
+abbrev μ-loop : tie.MeasureT-loop
+μ-loop s l₀ i₀ l i = length s - i
+
+loop-holds : tie.Need-loop-holds Inv-loop μ-loop
+loop-holds c = (search needs, rw (c .empty .ensures))
+
+shared-slice-read-digit : tie.Need-shared-slice-read-digit Inv-loop μ-loop
+shared-slice-read-digit c = search needs
+
+returns : tie.Need-returns Inv-loop μ-loop
+returns c = ap asTags (sym (set-other _ _ _ (c .before .digit .result) (c .before .digit .ensures) (c .before .before .before .loop-test .taken) (c .if1 .taken)) ∙ c .before .before .before .before .loop .inv .1)
+
+add-i : tie.Need-add-i Inv-loop μ-loop
+add-i c = search needs
+
+loop-less : tie.Need-loop-less Inv-loop μ-loop
+loop-less c = search needs
+
+loop-again : tie.Need-loop-again Inv-loop μ-loop
+loop-again c = (
+  omega arith,
+  rw (c .with-digit .ensures) (sym (set-step (c .before .before .before .before .before .loop .l) _ (c .before .before .before .before .before .loop .i) (c .before .before .digit .result) (c .before .before .digit .ensures) (c .before .before .before .before .loop-test .taken) (c .before .if1 .left)) ∙ c .before .before .before .before .before .loop .inv .1),
+)
+
+returns-2 : tie.Need-returns-2 Inv-loop μ-loop
+returns-2 c = ap asTags (sym (set-end _ _ _ (c .loop-test .left)) ∙ c .before .loop .inv .1)
+
+pub hex-digits-spec : {M : Type 1} → statement M
+hex-digits-spec =
+    tie.close
+    (tie.spec Inv-loop μ-loop (λ _ _. tt) loop-holds shared-slice-read-digit (λ _ _. tt) returns (λ _ _. tt) add-i loop-less loop-again returns-2)

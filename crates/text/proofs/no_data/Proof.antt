@@ -1,0 +1,13 @@
+use mathlib.Core.Path.{refl}
+use Rattle.text.proofs.no_data.Statement.{statement}
+use Rattle.text.proofs.no_data.Tie as tie
+
+-- `text::no_data` meets its contract. Assumes nothing.
+
+returns : tie.Need-returns
+returns c = rw (c .no-room .ensures)
+
+pub no-data-spec : {M : Type 1} → statement M
+no-data-spec =
+    tie.close
+    (tie.spec (λ _ _. tt) returns)

@@ -1,0 +1,69 @@
+-- Document 01, 'The text': its lines, the fields of a line, and the field that stands under a name.
+-- Assumes nothing.
+use Prim.Native.Nat.{ℕ, zero, suc, _+_}
+use mathlib.Core.Bool.{Bool, true, false, cond, _&&_}
+use mathlib.Core.List.{List, [], _∷_}
+use lib.ListN.{length, take, drop}
+use lib.Dec.{eqb, ltb}
+use Rattle.text.specs.Bytes.{eqBytes, indexOf}
+
+-- A text is whole lines, each of which byte 10 ends, and then its end, or a last line without byte 10
+pub data Lines : Type 0 where
+  done : Lines
+  cut : Lines
+  line : List ℕ → Lines → Lines
+
+-- the lines with one byte more in front of the first
+unfoldable pub before : ℕ → Lines → Lines
+before b done = cut
+before b cut = cut
+before b (line l ls) = line (b ∷ l) ls
+
+unfoldable pub linesOf : List ℕ → Lines
+linesOf [] = done
+linesOf (b ∷ bs) = cond (eqb b 10) (line [] (linesOf bs)) (before b (linesOf bs))
+
+-- the place of the byte 10 that ends the line at a place; the text's end, or a place beyond it, where no byte 10 is left
+unfoldable pub lineEnd : List ℕ → ℕ → ℕ
+lineEnd text at = at + indexOf 10 (drop at text)
+
+-- the line at a place
+unfoldable pub lineAt : List ℕ → ℕ → List ℕ
+lineAt text at = take (indexOf 10 (drop at text)) (drop at text)
+
+-- the place of the next line: after the byte 10 that ends the line at a place, or where the text ends
+unfoldable pub nextLine : List ℕ → ℕ → ℕ
+nextLine text at = cond (ltb (lineEnd text at) (length text)) (lineEnd text at + 1) (lineEnd text at)
+
+-- ---- the fields of a line, with one space between them
+
+-- the fields with one byte more in front of the first
+unfoldable pub ahead : ℕ → List (List ℕ) → List (List ℕ)
+ahead b [] = []
+ahead b (f ∷ fs) = (b ∷ f) ∷ fs
+
+unfoldable pub fieldsOf : List ℕ → List (List ℕ)
+fieldsOf [] = [] ∷ []
+fieldsOf (b ∷ bs) = cond (eqb b 32) ([] ∷ fieldsOf bs) (ahead b (fieldsOf bs))
+
+-- ---- names in any order, each once
+
+-- whether a name is among the names of a line
+unfoldable pub hasName : List ℕ → List (List ℕ) → Bool
+hasName name [] = false
+hasName name (h ∷ hs) = cond (eqBytes h name) true (hasName name hs)
+
+-- whether each of the names is
+unfoldable pub hasNames : List (List ℕ) → List (List ℕ) → Bool
+hasNames [] hs = true
+hasNames (n ∷ ns) hs = hasName n hs && hasNames ns hs
+
+-- as many fields as there are names, and each name among them
+unfoldable pub namesOnce : List (List ℕ) → List (List ℕ) → Bool
+namesOnce ns hs = eqb (length hs) (length ns) && hasNames ns hs
+
+-- the field under a name; no byte, which no column takes, where the name or the field is missing
+unfoldable pub under : List ℕ → List (List ℕ) → List (List ℕ) → List ℕ
+under name [] fs = []
+under name (h ∷ hs) [] = []
+under name (h ∷ hs) (f ∷ fs) = cond (eqBytes h name) f (under name hs fs)

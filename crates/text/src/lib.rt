@@ -1,0 +1,338 @@
+// The text of a table and its calls: byte strings, lines, fields, and what a field says.
+ghost use mathlib.Core.Path.{_≡_};
+ghost use Prim.Native.Nat.{ℕ, _+_, _*_, _<_, _≤_};
+ghost use mathlib.Core.List.{List, []};
+ghost use mathlib.Core.Option.{none, some};
+ghost use lib.ListN.{length};
+ghost use Rattle.label.specs.Tags.{empty};
+ghost use Rattle.text.specs.Bytes.{eqBytes, indexOf, digitOf, decimalFrom, decimalOf, setFrom, setOf, pairsFrom, dataOf};
+ghost use Rattle.text.specs.Lines.{lineEnd, lineAt, nextLine, fieldsOf, hasName, hasNames, namesOnce, under};
+ghost use Rattle.text.specs.Answers.{asNumber, asTags, asData, noRoom};
+use label::Label;
+
+// What a field of decimal digits says.
+pub enum Number {
+    Value(u8),
+    Bad,
+}
+
+// What a field of hexadecimal digits says.
+pub enum Tags {
+    Set(Label),
+    Bad,
+}
+
+// How many bytes a field of data holds.
+pub enum Size {
+    Bytes(usize),
+    Bad,
+}
+
+// What a field of data says: its bytes at the front, zeros after them.
+pub struct Data {
+    pub size: Size,
+    pub bytes: [u8; 255],
+}
+
+// Whether two byte strings are the same.
+pub fn same(a: &[u8], b: &[u8]) -> bool
+    ensures { λ r. ⌜ r ≡ eqBytes (now (a .entry)) (now (b .entry)) ⌝ }
+{
+    if a.len() != b.len() {
+        return false;
+    }
+    let mut i = 0;
+    while i < a.len() {
+        if a[i] != b[i] {
+            return false;
+        }
+        i += 1;
+    }
+    true
+}
+
+// The index of the first b, or the length where there is none.
+pub fn index_of(s: &[u8], b: u8) -> usize
+    ensures { λ r. ⌜ r ≡ indexOf b (now (s .entry)) ⌝ }
+{
+    let mut i = 0;
+    while i < s.len() {
+        if s[i] == b {
+            return i;
+        }
+        i += 1;
+    }
+    i
+}
+
+// What a digit says, or 16.
+pub fn digit(b: u8) -> u8
+    ensures { λ r. ⌜ r ≡ digitOf b ⌝ }
+{
+    if b < 48 {
+        return 16;
+    }
+    if b <= 57 {
+        return b - 48;
+    }
+    if b < 97 {
+        return 16;
+    }
+    if b <= 102 {
+        return b - 87;
+    }
+    16
+}
+
+// Decimal digits of a value of at most max.
+fn digits(s: &[u8], max: u8) -> Number
+    ensures { λ r. ⌜ r ≡ asNumber (decimalFrom max 0 (now (s .entry))) ⌝ }
+{
+    let top = max as u64;
+    let mut n: u64 = 0;
+    let mut i = 0;
+    while i < s.len() {
+        let d = digit(s[i]);
+        if 10 <= d {
+            return Number::Bad;
+        }
+        let m = n * 10 + (d as u64);
+        if top < m {
+            return Number::Bad;
+        }
+        n = m;
+        i += 1;
+    }
+    Number::Value(n as u8)
+}
+
+// A decimal field, 0 to max, without leading zeros.
+pub fn decimal(s: &[u8], max: u8) -> Number
+    ensures { λ r. ⌜ r ≡ asNumber (decimalOf max (now (s .entry))) ⌝ }
+{
+    if s.len() == 0 {
+        return Number::Bad;
+    }
+    if 1 < s.len() {
+        if s[0] == 48 {
+            return Number::Bad;
+        }
+        return digits(s, max);
+    }
+    digits(s, max)
+}
+
+// Hexadecimal digits.
+fn hex_digits(s: &[u8]) -> Tags
+    ensures { λ r. ⌜ r ≡ asTags (setFrom empty (now (s .entry))) ⌝ }
+{
+    let mut l = label::empty();
+    let mut i = 0;
+    while i < s.len() {
+        let d = digit(s[i]);
+        if 16 <= d {
+            return Tags::Bad;
+        }
+        l = label::with_digit(l, d);
+        i += 1;
+    }
+    Tags::Set(l)
+}
+
+// A set: 1 to 16 hexadecimal digits.
+pub fn hex_set(s: &[u8]) -> Tags
+    ensures { λ r. ⌜ r ≡ asTags (setOf (now (s .entry))) ⌝ }
+{
+    if s.len() < 1 {
+        return Tags::Bad;
+    }
+    if 16 < s.len() {
+        return Tags::Bad;
+    }
+    hex_digits(s)
+}
+
+fn no_room() -> [u8; 255]
+    ensures { λ r. ⌜ r ≡ noRoom ⌝ }
+{
+    [0u8; 255]
+}
+
+// What a bad field of data gives.
+pub fn no_data() -> Data
+    ensures { λ r. ⌜ r ≡ asData none ⌝ }
+{
+    let bytes = no_room();
+    Data {
+        size: Size::Bad,
+        bytes: bytes,
+    }
+}
+
+// What `-` gives.
+pub fn empty_data() -> Data
+    ensures { λ r. ⌜ r ≡ asData (some []) ⌝ }
+{
+    let bytes = no_room();
+    Data {
+        size: Size::Bytes(0),
+        bytes: bytes,
+    }
+}
+
+// Two digits a byte, at most max bytes.
+fn pairs(s: &[u8], max: u8) -> Data
+    ensures { λ r. ⌜ r ≡ asData (pairsFrom max [] (now (s .entry))) ⌝ }
+{
+    let top = max as usize;
+    let mut bytes = no_room();
+    let mut n: usize = 0;
+    let mut i: usize = 0;
+    while i < s.len() {
+        if s.len() <= i + 1 {
+            return no_data();
+        }
+        let h = digit(s[i]);
+        let l = digit(s[i + 1]);
+        if 16 <= h {
+            return no_data();
+        }
+        if 16 <= l {
+            return no_data();
+        }
+        if top <= n {
+            return no_data();
+        }
+        bytes[n] = h * 16 + l;
+        n += 1;
+        i += 2;
+    }
+    Data {
+        size: Size::Bytes(n),
+        bytes: bytes,
+    }
+}
+
+// A data field: `-`, or two digits a byte, at most max bytes.
+pub fn data_field(s: &[u8], max: u8) -> Data
+    ensures { λ r. ⌜ r ≡ asData (dataOf max (now (s .entry))) ⌝ }
+{
+    if same(s, b"-") {
+        return empty_data();
+    }
+    if s.len() == 0 {
+        return no_data();
+    }
+    pairs(s, max)
+}
+
+// The field of a row that stands under a name of the header.
+pub fn value<'a>(header: &[u8], row: &'a [u8], name: &[u8]) -> &'a [u8]
+    ensures { λ r. ⌜ now r ≡ under (now (name .entry)) (fieldsOf (now (header .entry))) (fieldsOf (now (row .entry))) ⌝ }
+{
+    let mut h = header;
+    let mut f = row;
+    loop {
+        let i = index_of(h, 32);
+        let j = index_of(f, 32);
+        if same(&h[..i], name) {
+            return &f[..j];
+        }
+        if h.len() <= i {
+            return &f[..0];
+        }
+        if f.len() <= j {
+            return &f[..0];
+        }
+        h = &h[i + 1..];
+        f = &f[j + 1..];
+    }
+}
+
+// Whether a name is among the names of a header.
+pub fn has(header: &[u8], name: &[u8]) -> bool
+    ensures { λ r. ⌜ r ≡ hasName (now (name .entry)) (fieldsOf (now (header .entry))) ⌝ }
+{
+    let mut h = header;
+    loop {
+        let i = index_of(h, 32);
+        if same(&h[..i], name) {
+            return true;
+        }
+        if h.len() <= i {
+            return false;
+        }
+        h = &h[i + 1..];
+    }
+}
+
+// Whether each of the names, with a space between them, is among the names of a header.
+fn has_all(header: &[u8], names: &[u8]) -> bool
+    ensures { λ r. ⌜ r ≡ hasNames (fieldsOf (now (names .entry))) (fieldsOf (now (header .entry))) ⌝ }
+{
+    let mut n = names;
+    loop {
+        let i = index_of(n, 32);
+        if !has(header, &n[..i]) {
+            return false;
+        }
+        if n.len() <= i {
+            return true;
+        }
+        n = &n[i + 1..];
+    }
+}
+
+// How many fields a line has.
+pub fn count(row: &[u8]) -> usize
+    ensures { λ r. ⌜ r ≡ length (fieldsOf (now (row .entry))) ⌝ }
+{
+    let mut n: usize = 1;
+    let mut i: usize = 0;
+    while i < row.len() {
+        if row[i] == 32 {
+            n += 1;
+        }
+        i += 1;
+    }
+    n
+}
+
+// Whether a line is a header of the names, each once, in any order.
+pub fn is_header(line: &[u8], names: &[u8]) -> bool
+    ensures { λ r. ⌜ r ≡ namesOnce (fieldsOf (now (names .entry))) (fieldsOf (now (line .entry))) ⌝ }
+{
+    (count(line) == count(names)) & has_all(line, names)
+}
+
+// The place of the byte 10 that ends the line at a place; the text's end, or a place beyond it, where none is left.
+pub fn line_end(text: &[u8], at: usize) -> usize
+    ensures { λ r. ⌜ r ≡ lineEnd (now (text .entry)) at ⌝ }
+{
+    if text.len() <= at {
+        return at;
+    }
+    at + index_of(&text[at..], 10)
+}
+
+// The line at a place.
+pub fn line_at<'a>(text: &'a [u8], at: usize) -> &'a [u8]
+    ensures { λ r. ⌜ now r ≡ lineAt (now (text .entry)) at ⌝ }
+{
+    if text.len() <= at {
+        return &text[..0];
+    }
+    let end = line_end(text, at);
+    &text[at..end]
+}
+
+// The place of the line after the one at a place; the text's end, or a place beyond it, where there is none.
+pub fn next_line(text: &[u8], at: usize) -> usize
+    ensures { λ r. ⌜ r ≡ nextLine (now (text .entry)) at ⌝ }
+{
+    let end = line_end(text, at);
+    if end < text.len() {
+        return end + 1;
+    }
+    end
+}
