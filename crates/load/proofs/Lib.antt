@@ -1,3 +1,5 @@
 pub mod Laws
 pub mod Tables
 pub mod Verdicts
+pub mod Entries
+pub mod Accepted

@@ -1,0 +1,48 @@
+-- Document 01, 'A watering round through hubcalls': the lines that the program prints.
+-- Assumes nothing.
+use Prim.Native.Nat.{ℕ, zero, suc, _+_, _/_, _%_}
+use mathlib.Core.Bool.{Bool, true, false, cond}
+use mathlib.Core.List.{List, [], _∷_, _++_}
+use lib.ListN.{length, drop}
+use lib.Dec.{ltb, leb}
+
+-- the lower-case digit of a number below 16
+unfoldable pub digitText : ℕ → ℕ
+digitText n = cond (ltb n 10) (48 + n) (87 + n)
+
+-- two digits a byte
+unfoldable pub hexText : List ℕ → List ℕ
+hexText [] = []
+hexText (b ∷ bs) = digitText (b / 16) ∷ digitText (b % 16) ∷ hexText bs
+
+-- data in hexadecimal, or `-` if empty
+unfoldable pub dataText : List ℕ → List ℕ
+dataText [] = 45 ∷ []
+dataText (b ∷ bs) = hexText (b ∷ bs)
+
+-- the line of a call: its record, a space, and the bytes shown
+unfoldable pub callLine : List ℕ → List ℕ → List ℕ
+callLine entry shown = hexText entry ++ (32 ∷ (dataText shown ++ (10 ∷ [])))
+
+-- the last digits of a decimal number, at most k, in front of others
+unfoldable pub decimalOnto : ℕ → ℕ → List ℕ → List ℕ
+decimalOnto zero n ds = ds
+decimalOnto (suc k) n ds = cond (ltb n 10) ((48 + n) ∷ ds) (decimalOnto k (n / 10) ((48 + n % 10) ∷ ds))
+
+-- a number below 10 to the 20 in decimal
+unfoldable pub decimalText : ℕ → List ℕ
+decimalText n = decimalOnto 20 n []
+
+-- `refused N line L`
+unfoldable pub refusedLine : ℕ → ℕ → List ℕ
+refusedLine n l =
+    (114 ∷ 101 ∷ 102 ∷ 117 ∷ 115 ∷ 101 ∷ 100 ∷ 32 ∷ [])
+    ++ (decimalText n ++ ((32 ∷ 108 ∷ 105 ∷ 110 ∷ 101 ∷ 32 ∷ []) ++ (decimalText l ++ (10 ∷ []))))
+
+-- ---- a line at the front of a lent buffer, if there is room for it
+
+abbrev pub printed : List ℕ → List ℕ → List ℕ
+printed l out = cond (leb (length l) (length out)) (l ++ drop (length l) out) out
+
+abbrev pub printedLength : List ℕ → List ℕ → ℕ
+printedLength l out = cond (leb (length l) (length out)) (length l) 0

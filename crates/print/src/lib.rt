@@ -1,0 +1,84 @@
+// The lines that hubcalls prints.
+ghost use mathlib.Core.Path.{_≡_};
+ghost use mathlib.Core.Bool.{cond};
+ghost use mathlib.Core.List.{List, [], _++_};
+ghost use Prim.Native.Nat.{ℕ, _+_, _*_, _<_, _≤_};
+ghost use lib.ListN.{length, drop};
+ghost use lib.Seq.{sets};
+ghost use lib.Dec.{leb, eqb};
+ghost use Rattle.print.specs.Lines.{digitText, hexText, callLine, printed, printedLength};
+
+fn digit(n: u8) -> u8
+    requires { ⌜ n < 16 ⌝ }
+    ensures { λ r. ⌜ r ≡ digitText n ⌝ }
+{
+    if n < 10 {
+        return 48 + n;
+    }
+    87 + n
+}
+
+// Writes src in hexadecimal into out, from index at on.
+fn hex_into(src: &[u8], out: &mut [u8], at: usize)
+    requires { ⌜ at + length (now src) * 2 ≤ length (now out) ⌝ }
+    ensures { λ _. ⌜ now (out .exit) ≡ sets (now (out .entry)) at (hexText (now (src .entry))) ⌝ }
+{
+    let mut i = 0;
+    let mut k = at;
+    while i < src.len() {
+        let b = src[i];
+        out[k] = digit(b / 16);
+        out[k + 1] = digit(b % 16);
+        k += 2;
+        i += 1;
+    }
+}
+
+// Whether a record and bytes shown of these lengths have room for their line.
+fn fits(entry: usize, shown: usize, room: usize) -> bool
+    ensures { λ r. ⌜ r ≡ leb (entry * 2 + shown * 2 + cond (eqb shown 0) 3 2) room ⌝ }
+{
+    if shown == 0 {
+        if room < 3 {
+            return false;
+        }
+        return entry <= (room - 3) / 2;
+    }
+    if room < 2 {
+        return false;
+    }
+    let left = (room - 2) / 2;
+    if left < entry {
+        return false;
+    }
+    shown <= left - entry
+}
+
+// Writes the line of a call, for which there is room, to the front of out, and answers how long it is.
+fn write_line(entry: &[u8], shown: &[u8], out: &mut [u8]) -> usize
+    requires { ⌜ length (now entry) * 2 + length (now shown) * 2 + cond (eqb (length (now shown)) 0) 3 2 ≤ length (now out) ⌝ }
+    ensures { λ r. ⌜ (now (out .exit) ≡ sets (now (out .entry)) 0 (callLine (now (entry .entry)) (now (shown .entry)))) × (r ≡ length (callLine (now (entry .entry)) (now (shown .entry)))) ⌝ }
+{
+    hex_into(entry, &mut *out, 0);
+    let n = entry.len() * 2;
+    out[n] = 32;
+    if shown.len() == 0 {
+        out[n + 1] = 45;
+        out[n + 2] = 10;
+        return n + 3;
+    }
+    hex_into(shown, &mut *out, n + 1);
+    let m = n + 1 + shown.len() * 2;
+    out[m] = 10;
+    m + 1
+}
+
+// Writes the line of a call to the front of out, and answers how long it is; where there is no room, nothing and 0.
+pub fn call_line(entry: &[u8], shown: &[u8], out: &mut [u8]) -> usize
+    ensures { λ r. ⌜ (now (out .exit) ≡ printed (callLine (now (entry .entry)) (now (shown .entry))) (now (out .entry))) × (r ≡ printedLength (callLine (now (entry .entry)) (now (shown .entry))) (now (out .entry))) ⌝ }
+{
+    if fits(entry.len(), shown.len(), out.len()) {
+        return write_line(entry, shown, &mut *out);
+    }
+    0
+}
