@@ -99,6 +99,16 @@ block-length content k e = either (ltb k 32)
 pub block-get : (content : List ℕ) (k j : ℕ) → k < 32 → j < 64 → getD (blockAt content k) j 0 ≡ getD content (k * 64 + j) 0
 block-get content k j l h = rw (block-in content k l) (getD-take 64 (drop (k * 64) content) j 0 h ∙ getD-drop (k * 64) content j 0)
 
+-- the block of a content of any length
+pub block-size : (content : List ℕ) (k : ℕ) → k < 32 → length (blockAt content k) ≡ min 64 (length content - k * 64)
+block-size content k l = rw (block-in content k l) (simp (length-take, length-drop))
+
+-- what is left of a block beyond n, where no more than 64 is passed
+pub drop-most : (b : List ℕ) (n : ℕ) → length b ≤ 64 → drop (min n 64) b ≡ drop n b
+drop-most b n h = either (ltb n 64)
+    (λ e. let l : n < 64 = ltb-true n 64 e in let m : min n 64 ≡ n = omega arith in rw m)
+    (λ e. let l : 64 ≤ n = ltb-false n 64 e in let m : min n 64 ≡ 64 = omega arith in rw m (drop-of-length-le b {i = 64} (omega arith) ∙ sym (drop-of-length-le b {i = n} (omega arith))))
+
 -- beyond 64 a block has nothing
 pub block-end : (content : List ℕ) (k n : ℕ) → length content ≡ 2048 → 64 ≤ n → drop n (blockAt content k) ≡ []
 block-end content k n e h = drop-of-length-le (blockAt content k) {i = n} (omega (arith, block-length content k e))

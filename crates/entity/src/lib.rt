@@ -211,17 +211,18 @@ impl Entity {
 }
 
 // Whether the content bytes of a slot beyond a length are zero.
-pub fn zero_beyond(content: [u8; 2048], slot: u8, n: usize) -> bool
-    ensures { λ r. ⌜ r ≡ allZero (drop n (blockAt content slot)) ⌝ }
+pub fn zero_beyond(content: &[u8], slot: u8, n: usize) -> bool
+    ensures { λ r. ⌜ r ≡ allZero (drop n (blockAt (now (content .entry)) slot)) ⌝ }
 {
     let base = (slot as usize) * 64;
     if base < 2048 {
-        let mut j = n;
-        while j < 64 {
-            if content[base + j] != 0 {
+        let end = at_most(base + 64, content.len());
+        let mut at = base + at_most(n, 64);
+        while at < end {
+            if content[at] != 0 {
                 return false;
             }
-            j += 1;
+            at += 1;
         }
     }
     true

@@ -22,7 +22,7 @@ use Rattle.entity.specs.Block.{allZero, noBlock, padded, blockAt, withBlock}
 use Rattle.entity.proofs.Lists.{block-length, block-out, set-length, set-same, set-other, zero-drop}
 use Rattle.entity.proofs.Padding.{cut-length, cut-padded, padded-length, padded-front, padded-rest}
 use Rattle.monitor.specs.declared.Table.{Table}
-use Rattle.monitor.specs.Table.{entityAt, placeFormed, formed, groupsOf, withSlot, hub}
+use Rattle.monitor.specs.Table.{entityAt, wellPlaced, placeFormed, formed, groupsOf, withSlot, hub}
 
 -- a slot that a number names, by its entity and its block
 abbrev pub seen : Table → ℕ → Slot words
@@ -32,11 +32,7 @@ entity-in : (t : Table) (i : ℕ) → i < 32 → entityAt t i ≡ getD (t .entit
 unfolding entityAt
 entity-in t i l = rw (lt-ltb i 32 l)
 
--- an entity in form, and zeros in its block beyond its content
-abbrev wellPlaced : Entity → List ℕ → Bool
-wellPlaced x block = partsFormed {A = words} (x .kind) (x .sec) (x .int) (rightsOf x) (x .len) && allZero (drop (x .len) block)
-
-placed : (t : Table) (i : ℕ) → i < 32 → placeFormed t i ≡ wellPlaced (getD (t .entities) i freeEntity) (blockAt (t .content) i)
+pub placed : (t : Table) (i : ℕ) → i < 32 → placeFormed t i ≡ wellPlaced (getD (t .entities) i freeEntity) (blockAt (t .content) i)
 unfolding placeFormed
 placed t i l = ap (λ (x : Entity). wellPlaced x (blockAt (t .content) i)) (entity-in t i l)
 

@@ -21,11 +21,12 @@ entityAt t k = cond (ltb k 32) (getD (t .entities) k freeEntity) freeEntity
 
 -- ---- 99
 
--- a slot has the form, and the bytes beyond its content's length are zero
+-- an entity has the form, and the bytes of its block beyond its content's length are zero
+abbrev pub wellPlaced : Entity → List ℕ → Bool
+wellPlaced e block = partsFormed {A = words} (e .kind) (e .sec) (e .int) (rightsOf e) (e .len) && allZero (drop (e .len) block)
+
 unfoldable pub placeFormed : Table → ℕ → Bool
-placeFormed t k =
-    partsFormed {A = words} (entityAt t k .kind) (entityAt t k .sec) (entityAt t k .int) (rightsOf (entityAt t k)) (entityAt t k .len)
-    && allZero (drop (entityAt t k .len) (blockAt (t .content) k))
+placeFormed t k = wellPlaced (entityAt t k) (blockAt (t .content) k)
 
 -- 32 slots, 2,048 content bytes, at most 8 groups, and each slot in form
 unfoldable pub formed : Table → Bool

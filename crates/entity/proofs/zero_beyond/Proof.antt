@@ -1,68 +1,124 @@
-use Prim.Native.Nat.{_*_, _-_, _≤_, _<_}
+use Prim.Native.Nat.{ℕ, _+_, _*_, _-_, _≤_, _<_, min}
+use mathlib.Core.List.{List}
 use mathlib.Core.Path.{_≡_, refl, sym, ap, _∙_}
 use native.Mathlib.Omega.{arith}
-use lib.ListN.{length, drop}
+use lib.ListN.{length, getD, drop, drop-of-length-le}
+use denote.Ref.{now}
 use borrow.Author.Needs.{needs}
 use Rattle.entity.specs.Block.{allZero, noBlock, blockAt}
-use Rattle.entity.proofs.Lists.{zero-step, zero-stop, block-length, block-get, block-out, block-end, zero-drop}
+use Rattle.entity.proofs.Lists.{zero-step, zero-stop, block-size, block-get, block-out, drop-most, zero-drop}
 use Rattle.entity.proofs.zero_beyond.Statement.{statement}
 use Rattle.entity.proofs.zero_beyond.Tie as tie
 
 -- `entity::zero_beyond` meets its contract. The loop's invariant: the bytes passed are zero. Assumes nothing.
 
+-- where the walk over a block begins, and goes on
+begins : (b : List ℕ) (n at k : ℕ) → length b ≤ 64 → at ≡ k * 64 + min n 64 → allZero (drop n b) ≡ allZero (drop (at - k * 64) b)
+begins b n at k h e = let q : at - k * 64 ≡ min n 64 = omega arith in rw q (ap allZero (sym (drop-most b n h)))
+
+goes-on : (b : List ℕ) (at k : ℕ) → k * 64 ≤ at → allZero (drop (at - k * 64 + 1) b) ≡ allZero (drop (at + 1 - k * 64) b)
+goes-on b at k h = let q : at - k * 64 + 1 ≡ at + 1 - k * 64 = omega arith in rw q
+
 abbrev Inv-loop : tie.InvT-loop
-Inv-loop slot n content base j₀ j = (slot < 32) × (length content ≡ 2048) × (allZero (drop n (blockAt content slot)) ≡ allZero (drop j (blockAt content slot)))
+Inv-loop content slot n base end at₀ at =
+    (slot < 32) × (end ≡ min (slot * 64 + 64) (length content)) × (slot * 64 ≤ at)
+    × (allZero (drop n (blockAt content slot)) ≡ allZero (drop (at - slot * 64) (blockAt content slot)))
 
 abbrev μ-loop : tie.MeasureT-loop
-μ-loop slot n content base j₀ j = 64 - j
+μ-loop content slot n base end at₀ at = end - at
 
 mul-base : tie.Need-mul-base Inv-loop μ-loop
 mul-base c = search needs
 
+add-at-most : tie.Need-add-at-most Inv-loop μ-loop
+add-at-most c = search needs
+
+at-most-requires : tie.Need-at-most-requires Inv-loop μ-loop
+at-most-requires c κs = search needs
+
+at-most-requires-2 : tie.Need-at-most-requires-2 Inv-loop μ-loop
+at-most-requires-2 c κs = search needs
+
+add-at : tie.Need-add-at Inv-loop μ-loop
+add-at c = search needs
+
 loop-holds : tie.Need-loop-holds Inv-loop μ-loop
-loop-holds c = (omega arith, search needs, refl)
+loop-holds c =
+    let z = c .before .before .before .before .args in
+    let b = blockAt (now (z .content)) (z .slot) in
+    let h : z .slot < 32 = omega arith in (
+      h,
+      search needs,
+      search needs,
+      begins b (z .n) _ (z .slot) (omega (arith, block-size (now (z .content)) (z .slot) h)) (omega arith),
+    )
 
-add-if2 : tie.Need-add-if2 Inv-loop μ-loop
-add-if2 c = search needs
-
-array-read-if2 : tie.Need-array-read-if2 Inv-loop μ-loop
-array-read-if2 c = search needs
+shared-slice-read-if2 : tie.Need-shared-slice-read-if2 Inv-loop μ-loop
+shared-slice-read-if2 c = search needs
 
 returns : tie.Need-returns Inv-loop μ-loop
 returns c =
-    let l = c .before .before in
-    let t = l .before .before .args .t1 in
-    let k = l .before .before .args .slot in
-    sym (l .loop .inv .2 ∙ zero-stop (blockAt t k) (l .loop .j) (omega (arith, block-length t k (l .loop .inv .1)))
-    (λ e. c .if2 .taken (sym (block-get t k (l .loop .j) (l .loop .inv .0) (search needs)) ∙ e)))
+    let l = c .before .before .before in
+    let z = c .before .before .before .before .before .before .before .before .args in
+    let t = now (z .content) in
+    let k = z .slot in
+    let b = blockAt t k in
+    let j = l .loop .at - k * 64 in
+    let q : k * 64 + j ≡ l .loop .at = omega arith in
+    let g : getD b j 0 ≡ getD t (l .loop .at) 0 = rw q at (block-get t k j (l .loop .inv .0) (omega arith)) in
+    sym (l .loop .inv .3 ∙ zero-stop b j (omega (arith, block-size t k (l .loop .inv .0))) (λ e. c .if2 .taken (sym g ∙ e)))
 
-add-j : tie.Need-add-j Inv-loop μ-loop
-add-j c = search needs
+add-at-2 : tie.Need-add-at-2 Inv-loop μ-loop
+add-at-2 c = search needs
 
 loop-less : tie.Need-loop-less Inv-loop μ-loop
 loop-less c = search needs
 
 loop-again : tie.Need-loop-again Inv-loop μ-loop
 loop-again c =
-    let l = c .before .before in
-    let t = l .before .before .args .t1 in
-    let k = l .before .before .args .slot in (
+    let l = c .before .before .before in
+    let z = c .before .before .before .before .before .before .before .before .args in
+    let t = now (z .content) in
+    let k = z .slot in
+    let b = blockAt t k in
+    let j = l .loop .at - k * 64 in
+    let q : k * 64 + j ≡ l .loop .at = omega arith in
+    let g : getD b j 0 ≡ getD t (l .loop .at) 0 = rw q at (block-get t k j (l .loop .inv .0) (omega arith)) in (
       l .loop .inv .0,
       l .loop .inv .1,
-      l .loop .inv .2 ∙ zero-step (blockAt t k) (l .loop .j) (omega (arith, block-length t k (l .loop .inv .1)))
-          (block-get t k (l .loop .j) (l .loop .inv .0) (search needs) ∙ c .if2 .left),
+      search needs,
+      l .loop .inv .3 ∙ zero-step b j (omega (arith, block-size t k (l .loop .inv .0))) (g ∙ c .if2 .left) ∙ goes-on b (l .loop .at) k (l .loop .inv .2),
     )
 
 returns-2 : tie.Need-returns-2 Inv-loop μ-loop
 returns-2 c =
     let l = c .before in
-    sym (l .loop .inv .2 ∙ ap allZero (block-end (l .before .before .args .t1) (l .before .before .args .slot) (l .loop .j) (l .loop .inv .1) (search needs)))
+    let z = c .before .before .before .before .before .before .args in
+    let b = blockAt (now (z .content)) (z .slot) in
+    sym (l .loop .inv .3 ∙ ap allZero (drop-of-length-le b {i = l .loop .at - z .slot * 64} (omega (arith, block-size (now (z .content)) (z .slot) (l .loop .inv .0)))))
 
 returns-3 : tie.Need-returns-3 Inv-loop μ-loop
 unfolding noBlock
-returns-3 c = sym (rw (block-out (c .before .args .t1) (c .before .args .slot) (omega arith)) (zero-drop (c .before .args .n) 64))
+returns-3 c =
+    let z = c .before .before .args in
+    sym (rw (block-out (now (z .content)) (z .slot) (omega arith)) (zero-drop (z .n) 64))
 
 pub zero-beyond-spec : {M : Type 1} → statement M
 zero-beyond-spec =
     tie.close
-    (tie.spec Inv-loop μ-loop mul-base loop-holds add-if2 array-read-if2 returns add-j loop-less loop-again returns-2 returns-3)
+    (tie.spec
+    Inv-loop
+    μ-loop
+    mul-base
+    add-at-most
+    at-most-requires
+    at-most-requires-2
+    add-at
+    loop-holds
+    shared-slice-read-if2
+    returns
+    add-at-2
+    loop-less
+    loop-again
+    returns-2
+    returns-3)
