@@ -3,3 +3,9 @@ pub mod Groups
 pub mod Form
 pub mod Finish
 pub mod Written
+pub mod Audit
+pub mod ShowLaws
+pub mod AuditLaws
+pub mod And
+pub mod Share
+pub mod Claims

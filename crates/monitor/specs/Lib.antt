@@ -1,3 +1,5 @@
 pub mod Table
 pub mod Calls
 pub mod Parts
+pub mod Claims
+pub mod Ends
