@@ -220,6 +220,15 @@ module _ (text : List ℕ) where
       go true q = let z : _≡_ {A = ℕ} 0 1 = cc in absurd (omega arith)
       go false q = passed 17 _ Accepted (passed 16 (filled text .twice) _ (passed 15 (badLine text) _ q .1) .1) .0
 
+  -- no line of an accepted text is bad
+  pub bad-none : verdictOf text ≡ Accepted → badLine text ≡ 0
+  unfolding verdictOf
+  bad-none e = go (ltb 65535 (length text)) e
+    where
+      go : (b : Bool) → cond b (Refused 14 0) (refuseAt 15 (badLine text) (refuseAt 16 (filled text .twice) (refuseAt 17 (breakingIn text (tableIn text)) Accepted))) ≡ Accepted → badLine text ≡ 0
+      go true q = let z : _≡_ {A = ℕ} 0 1 = cc in absurd (omega arith)
+      go false q = passed 15 (badLine text) _ q .0
+
   table-accepted : breakingIn text (tableIn text) ≡ 0 → accepted hub (tableIn text) ≡ true
   unfolding tableIn filled groupsIn breakingIn
   table-accepted b =

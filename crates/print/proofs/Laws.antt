@@ -1,16 +1,18 @@
 -- One step and the end of what is printed, and a line stored piece by piece.
 -- Assumes nothing.
-use mathlib.Core.Path.{_≡_, refl, sym, ap, _∙_}
+use mathlib.Core.Path.{_≡_, refl, sym, ap, ap₂, _∙_}
 use mathlib.Core.List.{List, [], _∷_, _++_}
-use Prim.Native.Nat.{ℕ, zero, suc, _+_, _*_, _/_, _%_, _≤_, _<_}
+use Prim.Native.Nat.{ℕ, zero, suc, _+_, _*_, _-_, _/_, _%_, _^_, _≤_, _<_}
 use native.Mathlib.Numerals.{add-one}
+use native.Mathlib.Nat.{pow-suc}
+use mathlib.Core.Logic.{_⊎_, inl, inr}
 use native.Mathlib.Omega.{arith}
-use lib.ListN.{length, getD, drop, set, drop-of-length-le, length-append}
-use lib.Seq.{drop-cons, sets, sets-eq}
+use lib.ListN.{length, getD, drop, set, drop-of-length-le, length-append, length-set, take, length-drop, length-replicate}
+use lib.Seq.{drop-cons, sets, sets-eq, getD-set-same, drop-set-lt, take-all}
 use lib.Dec.{eqb, leb}
-use borrow.Author.Tests.{eq-eqb, ne-eqb, le-leb}
+use borrow.Author.Tests.{eq-eqb, ne-eqb, le-leb, lt-ltb, le-ltb}
 use mathlib.Core.Bool.{Bool, true, false, cond}
-use Rattle.print.specs.Lines.{digitText, hexText, dataText, callLine, printed, printedLength}
+use Rattle.print.specs.Lines.{digitText, hexText, dataText, callLine, printed, printedLength, decimalOnto, decimalText, refusedLine, noLine, short}
 
 pub hex-end : (out src : List ℕ) (k i : ℕ) → length src ≤ i → sets out k (hexText (drop i src)) ≡ out
 unfolding hexText
@@ -107,3 +109,87 @@ need-some e s room h = go (eqb s 0) h
 
 pub need-empty : (e s room : ℕ) → s ≡ 0 → e * 2 + s * 2 + cond (eqb s 0) 3 2 ≤ room → e * 2 + 3 ≤ room
 need-empty e s room z h = let k : e * 2 + s * 2 + 3 ≤ room = rw (eq-eqb s 0 z) at h in omega arith
+
+-- ---- decimal numbers
+
+pub decimal-last : (k n : ℕ) (ds : List ℕ) → 0 < k → n < 10 → decimalOnto k n ds ≡ (48 + n) ∷ ds
+unfolding decimalOnto
+decimal-last zero n ds p h = absurd (omega arith)
+decimal-last (suc k) n ds p h = rw (lt-ltb n 10 h)
+
+decimal-next : (k n : ℕ) (ds : List ℕ) → 10 ≤ n → decimalOnto (suc k) n ds ≡ decimalOnto k (n / 10) ((48 + n % 10) ∷ ds)
+unfolding decimalOnto
+decimal-next k n ds h = rw (le-ltb n 10 h)
+
+pub decimal-more : (k n : ℕ) (ds : List ℕ) → 0 < k → 10 ≤ n → decimalOnto k n ds ≡ decimalOnto (k - 1) (n / 10) ((48 + n % 10) ∷ ds)
+decimal-more k n ds p h = let e : suc (k - 1) ≡ k = omega arith in rw e at (decimal-next (k - 1) n ds h)
+
+-- a number with k digits at most, and one digit less
+pub digits-two : (k n : ℕ) → n < 10 ^ k → 10 ≤ n → 1 < k
+digits-two zero n h p = absurd (omega arith)
+digits-two (suc zero) n h p = absurd (omega arith)
+digits-two (suc (suc k)) n h p = omega arith
+
+pub digits-one : (k n : ℕ) → n < 10 ^ k → 0 < k ⊎ (n ≡ 0)
+digits-one zero n h = inr (omega arith)
+digits-one (suc k) n h = inl (omega arith)
+
+pub digits-less : (k n : ℕ) → 0 < k → n < 10 ^ k → n / 10 < 10 ^ (k - 1)
+digits-less zero n p h = absurd (omega arith)
+digits-less (suc k) n p h =
+    let e : suc k - 1 ≡ k = omega arith in
+    let q : n < 10 ^ k * 10 = rw (pow-suc 10 k) at h in
+    rw e (omega arith)
+
+pub drop-here : (l : List ℕ) (i d : ℕ) → i < length l → drop i (set l i d) ≡ d ∷ drop (i + 1) l
+drop-here l i d h =
+    drop-cons (set l i d) i 0 (rw length-set h) ∙ ap₂ (λ (x : ℕ) (xs : List ℕ). x ∷ xs) (getD-set-same l i d 0 h) (drop-set-lt (suc i) l i d (omega arith) ∙ ap (λ (n : ℕ). drop n l) (sym (add-one i)))
+
+-- ---- bytes one by one
+
+pub bytes-end : (out src : List ℕ) (k i : ℕ) → length src ≤ i → sets out k (drop i src) ≡ out
+bytes-end out src k i h = rw (drop-of-length-le src h)
+
+pub bytes-step : (out src : List ℕ) (k i : ℕ) → i < length src → sets out k (drop i src) ≡ sets (set out k (getD src i 0)) (k + 1) (drop (i + 1) src)
+bytes-step out src k i h = rw (drop-cons src i 0 h, add-one i, add-one k)
+
+-- ---- the line of a refused text
+
+pub digits-part : (bytes : List ℕ) (from : ℕ) → length bytes ≡ 20 → take (20 - from) (drop from bytes) ≡ drop from bytes
+digits-part bytes from h = take-all (20 - from) (drop from bytes) (omega (arith, length-drop from bytes))
+
+abbrev refusedText : List ℕ
+refusedText = 114 ∷ 101 ∷ 102 ∷ 117 ∷ 115 ∷ 101 ∷ 100 ∷ 32 ∷ []
+
+abbrev lineText : List ℕ
+lineText = 32 ∷ 108 ∷ 105 ∷ 110 ∷ 101 ∷ 32 ∷ []
+
+module _ (n l : ℕ) (a b c d : ℕ) (ea : a ≡ 0 + 8) (eb : b ≡ a + length (decimalText n)) (ec : c ≡ b + 6) (ed : d ≡ c + length (decimalText l)) where
+  pub refused-length : d + 1 ≡ length (refusedLine n l)
+  unfolding refusedLine
+  refused-length =
+      omega (
+        arith,
+        length-append (decimalText n) (lineText ++ (decimalText l ++ (10 ∷ []))),
+        length-append (decimalText l) (10 ∷ []),
+      )
+
+  pub refused-stored : (out : List ℕ) → sets (sets (sets (sets (sets out 0 refusedText) a (decimalText n)) b lineText) c (decimalText l)) d (10 ∷ []) ≡ sets out 0 (refusedLine n l)
+  unfolding refusedLine
+  refused-stored out = sym
+      (sets-append out 0 refusedText (decimalText n ++ (lineText ++ (decimalText l ++ (10 ∷ []))))
+      ∙ ap (λ (k : ℕ). sets (sets out 0 refusedText) k (decimalText n ++ (lineText ++ (decimalText l ++ (10 ∷ []))))) (sym ea)
+      ∙ sets-append (sets out 0 refusedText) a (decimalText n) (lineText ++ (decimalText l ++ (10 ∷ [])))
+      ∙ ap (λ (k : ℕ). sets (sets (sets out 0 refusedText) a (decimalText n)) k (lineText ++ (decimalText l ++ (10 ∷ [])))) (sym eb)
+      ∙ sets-append (sets (sets out 0 refusedText) a (decimalText n)) b lineText (decimalText l ++ (10 ∷ []))
+      ∙ ap (λ (k : ℕ). sets (sets (sets (sets out 0 refusedText) a (decimalText n)) b lineText) k (decimalText l ++ (10 ∷ []))) (sym ec)
+      ∙ sets-append (sets (sets (sets out 0 refusedText) a (decimalText n)) b lineText) c (decimalText l) (10 ∷ [])
+      ∙ ap (λ (k : ℕ). sets (sets (sets (sets (sets out 0 refusedText) a (decimalText n)) b lineText) c (decimalText l)) k (10 ∷ [])) (sym ed))
+
+pub length-none : length noLine ≡ 64
+unfolding noLine
+length-none = length-replicate {A = ℕ} 64 0
+
+pub short-is : (l out : List ℕ) (k : ℕ) → out ≡ sets noLine 0 l → k ≡ length l → length l ≤ 64 → record { bytes = out; len = k } ≡ short l
+unfolding short
+short-is l out k e f h = ap₂ (λ (x : List ℕ) (y : ℕ). record { bytes = x; len = y }) (e ∙ front l noLine (omega (arith, length-none))) f

@@ -3,7 +3,8 @@
 use Prim.Native.Nat.{ℕ, zero, suc, _+_, _/_, _%_}
 use mathlib.Core.Bool.{Bool, true, false, cond}
 use mathlib.Core.List.{List, [], _∷_, _++_}
-use lib.ListN.{length, drop}
+use lib.ListN.{length, drop, replicate}
+use Rattle.print.specs.declared.Short.{Short}
 use lib.Dec.{ltb, leb}
 
 -- the lower-case digit of a number below 16
@@ -46,3 +47,10 @@ printed l out = cond (leb (length l) (length out)) (l ++ drop (length l) out) ou
 
 abbrev pub printedLength : List ℕ → List ℕ → ℕ
 printedLength l out = cond (leb (length l) (length out)) (length l) 0
+
+-- a short line in a buffer of 64 bytes, zeros after it
+unfoldable pub noLine : List ℕ
+noLine = replicate 64 0
+
+unfoldable pub short : List ℕ → Short
+short l = record { bytes = l ++ drop (length l) noLine; len = length l }

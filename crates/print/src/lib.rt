@@ -6,7 +6,7 @@ ghost use Prim.Native.Nat.{ℕ, _+_, _*_, _<_, _≤_};
 ghost use lib.ListN.{length, drop};
 ghost use lib.Seq.{sets};
 ghost use lib.Dec.{leb, eqb};
-ghost use Rattle.print.specs.Lines.{digitText, hexText, callLine, printed, printedLength};
+ghost use Rattle.print.specs.Lines.{digitText, hexText, callLine, printed, printedLength, decimalText, refusedLine, noLine, short};
 
 fn digit(n: u8) -> u8
     requires { ⌜ n < 16 ⌝ }
@@ -81,4 +81,88 @@ pub fn call_line(entry: &[u8], shown: &[u8], out: &mut [u8]) -> usize
         return write_line(entry, shown, &mut *out);
     }
     0
+}
+
+// A decimal number of at most 20 digits: the bytes from a place on.
+pub struct Digits {
+    pub bytes: [u8; 20],
+    pub from: usize,
+}
+
+fn no_digits() -> [u8; 20]
+    ensures { λ r. ⌜ length r ≡ 20 ⌝ }
+{
+    [0u8; 20]
+}
+
+fn decimal(n: u64) -> Digits
+    ensures { λ r. ⌜ (drop (r .from) (r .bytes) ≡ decimalText n) × (r .from ≤ 20) × (length (r .bytes) ≡ 20) ⌝ }
+{
+    let mut bytes = no_digits();
+    let mut from: usize = 20;
+    let mut left = n;
+    while 10 <= left {
+        from -= 1;
+        bytes[from] = 48 + ((left % 10) as u8);
+        left = left / 10;
+    }
+    from -= 1;
+    bytes[from] = 48 + (left as u8);
+    Digits {
+        bytes: bytes,
+        from: from,
+    }
+}
+
+// Writes src into out, from index at on, and answers where it ends.
+fn bytes_into(src: &[u8], out: &mut [u8], at: usize) -> usize
+    requires { ⌜ at + length (now src) ≤ length (now out) ⌝ }
+    ensures { λ r. ⌜ (now (out .exit) ≡ sets (now (out .entry)) at (now (src .entry))) × (r ≡ at + length (now (src .entry))) ⌝ }
+{
+    let mut i = 0;
+    let mut k = at;
+    while i < src.len() {
+        out[k] = src[i];
+        k += 1;
+        i += 1;
+    }
+    k
+}
+
+fn put_decimal(n: u64, out: &mut [u8], at: usize) -> usize
+    requires { ⌜ at + 20 ≤ length (now out) ⌝ }
+    ensures { λ r. ⌜ (now (out .exit) ≡ sets (now (out .entry)) at (decimalText n)) × (r ≡ at + length (decimalText n)) × (length (decimalText n) ≤ 20) ⌝ }
+{
+    let d = decimal(n);
+    let from = d.from;
+    let bytes = d.bytes;
+    bytes_into(&bytes[from..], &mut *out, at)
+}
+
+// A line of at most 64 bytes, at the front of a buffer.
+pub struct Short {
+    pub bytes: [u8; 64],
+    pub len: usize,
+}
+
+fn no_line() -> [u8; 64]
+    ensures { λ r. ⌜ r ≡ noLine ⌝ }
+{
+    [0u8; 64]
+}
+
+// The line of a refused text.
+pub fn refused_line(number: u8, line: usize) -> Short
+    ensures { λ r. ⌜ r ≡ short (refusedLine number line) ⌝ }
+{
+    let mut bytes = no_line();
+    let a = bytes_into(b"refused ", &mut bytes, 0);
+    let b = put_decimal(number as u64, &mut bytes, a);
+    let c = bytes_into(b" line ", &mut bytes, b);
+    let d = put_decimal(line as u64, &mut bytes, c);
+    let e = bytes_into(b"\n", &mut bytes, d);
+    Short {
+        bytes: bytes,
+        len: e,
+    }
 }

@@ -1,0 +1,99 @@
+// A round: the calls of a text, played one by one.
+ghost use mathlib.Core.Path.{_≡_};
+ghost use Prim.Native.Nat.{ℕ};
+ghost use lib.ListN.{length, take};
+ghost use Rattle.rules.specs.Calls.{put};
+ghost use Rattle.monitor.specs.Calls.{reply};
+ghost use Rattle.round.specs.Played.{noBuffer, quiet, showing, unplayed, played};
+use monitor::Reply;
+use monitor::Table;
+use rows::Asked;
+use rows::CallRow;
+
+// The table after a call, the call's record, and the bytes that it shows: the first len of a buffer.
+pub struct Played {
+    pub table: Table,
+    pub entry: [u8; 16],
+    pub buffer: [u8; 64],
+    pub len: usize,
+}
+
+fn no_buffer() -> [u8; 64]
+    ensures { λ r. ⌜ r ≡ noBuffer ⌝ }
+{
+    [0u8; 64]
+}
+
+fn quiet(r: Reply) -> Played
+    ensures { λ p. ⌜ p ≡ quiet r ⌝ }
+{
+    let table = r.table;
+    let answer = r.answer;
+    let entry = answer.entry;
+    let buffer = no_buffer();
+    Played {
+        table: table,
+        entry: entry,
+        buffer: buffer,
+        len: 0,
+    }
+}
+
+fn showing(table: Table, caller: u8) -> Played
+    ensures { λ p. ⌜ p ≡ showing table caller ⌝ }
+{
+    let mut buffer = no_buffer();
+    let r = table.show_into(caller, &mut buffer);
+    let next = r.table;
+    let answer = r.answer;
+    let entry = answer.entry;
+    let len = entry[4] as usize;
+    Played {
+        table: next,
+        entry: entry,
+        buffer: buffer,
+        len: len,
+    }
+}
+
+fn unplayed(table: Table) -> Played
+    ensures { λ p. ⌜ p ≡ unplayed table ⌝ }
+{
+    let buffer = no_buffer();
+    Played {
+        table: table,
+        entry: [0u8; 16],
+        buffer: buffer,
+        len: 0,
+    }
+}
+
+// Puts the first n of some bytes.
+fn put_front(table: Table, caller: u8, bytes: [u8; 255], n: usize) -> Reply
+    ensures { λ r. ⌜ r ≡ reply table (put caller (take n bytes)) ⌝ }
+{
+    if n <= 255 {
+        return table.put(caller, &bytes[..n]);
+    }
+    table.put(caller, &bytes)
+}
+
+// Plays the call of a row.
+pub fn play(table: Table, row: CallRow) -> Played
+    ensures { λ p. ⌜ p ≡ played table row ⌝ }
+{
+    let asked = row.asked;
+    let bytes = row.bytes;
+    match asked {
+        Asked::Put(i, n) => quiet(put_front(table, i, bytes, n)),
+        Asked::Show(i) => showing(table, i),
+        Asked::Send(i, j) => quiet(table.send(i, j)),
+        Asked::Fetch(i, j) => quiet(table.fetch(i, j)),
+        Asked::Add(i, n, p) => quiet(table.add_tag(i, n, p)),
+        Asked::Drop(i, n, p) => quiet(table.drop_tag(i, n, p)),
+        Asked::Create(i, j, n) => quiet(table.create(i, j, n)),
+        Asked::Release(i, j) => quiet(table.release(i, j)),
+        Asked::Hand(i, j, n, p) => quiet(table.hand(i, j, n, p)),
+        Asked::Bad => unplayed(table),
+    }
+}
