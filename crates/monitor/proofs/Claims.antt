@@ -5,7 +5,7 @@ use mathlib.Core.Bool.{Bool, true, false, cond}
 use mathlib.Core.List.{List, [], _∷_, _++_, map}
 use Prim.Native.Nat.{ℕ}
 use Rattle.rules.specs.Table.{isProgram, Slot, at}
-use Rattle.rules.specs.Calls.{Call, callerOf}
+use Rattle.rules.specs.Calls.{Call, show, callerOf}
 use Rattle.rules.specs.Refusals.{step}
 use Rattle.rules.specs.Record.{Answer, answer}
 use Rattle.rules.specs.Runs.{bears, final, trace, hiddenAt, heard as heard-of}
@@ -20,8 +20,8 @@ use Rattle.label.specs.Words.{words}
 use Rattle.label.proofs.Words.{words-order, words-tag}
 use Rattle.monitor.specs.declared.Table.{Table}
 use Rattle.monitor.specs.Table.{formed, hub}
-use Rattle.monitor.specs.Calls.{reply, audited}
-use Rattle.monitor.specs.Claims.{after, RefusedKeeps, TableStaysAccepted, Heard, heard, TwoRuns, TableSecrecy}
+use Rattle.monitor.specs.Calls.{reply, shownPart, shownBuffer, audited}
+use Rattle.monitor.specs.Claims.{after, RefusedKeeps, RefusedShowKeeps, RefusedAuditKeeps, TableStaysAccepted, Heard, heard, TwoRuns, TableSecrecy}
 use Rattle.monitor.proofs.Form.{at-seen, hub-laws}
 
 -- ---- the rules' claims at the hub's table
@@ -45,7 +45,16 @@ hub-show = records-show words-order hub
 
 pub refused-keeps : RefusedKeeps
 unfolding reply
-refused-keeps t c n e = hub-refusals t c n e .table
+refused-keeps t c n e = let u = hub-refusals t c n e in
+    record { number = u .number; table = u .table; recorded = u .recorded; count = u .count }
+
+pub refused-show-keeps : RefusedShowKeeps
+unfolding reply shownPart shownBuffer
+refused-show-keeps t i buf n e = let u = hub-refusals t (show i buf) n e in record { buffer = u .buffer; part = u .part }
+
+pub refused-audit-keeps : RefusedAuditKeeps
+unfolding audited
+refused-audit-keeps t i list buf n e = let u = hub-audits t i list buf n e in record { number = u .number; buffer = u .buffer; part = u .part }
 
 pub table-stays-accepted : TableStaysAccepted
 unfolding reply
