@@ -28,7 +28,7 @@ use Rattle.rows.specs.declared.Form.the-variants as Form
 use Rattle.print.specs.Lines.{callLine}
 use Rattle.round.specs.declared.Played.{Played}
 use Rattle.round.specs.Played.{noBuffer, quiet, showing, played}
-use Rattle.round.specs.Round.{lineOf}
+use Rattle.round.specs.Round.{playedLine}
 
 -- ---- the call of a line has one of the nine forms
 
@@ -76,7 +76,7 @@ module _ (hs fs : List (List ℕ)) (c : Call words) where
 -- ---- the line and the table
 
 pub record Faithful (t : Table) (c : Call words) : Type 0 where
-  pub line : lineOf (played t (asCallRow (some c))) ≡ callLine (answer hub t c .entry) (answer hub t c .part)
+  pub line : playedLine (played t (asCallRow (some c))) ≡ callLine (answer hub t c .entry) (answer hub t c .part)
   pub table : played t (asCallRow (some c)) .table ≡ step hub t c
 
 put-faithful : (t : Table) (i : ℕ) (bs : List ℕ) → Faithful t (put i bs)

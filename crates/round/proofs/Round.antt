@@ -23,14 +23,16 @@ use Rattle.rows.specs.Names.{callNames}
 use Rattle.rows.specs.declared.CallRow.{CallRow}
 use Rattle.load.specs.declared.Place.{Place}
 use Rattle.load.specs.Blocks.{start, pastEmpty, groupsAt, callsAt, namesAt, rowsAt, rowsBad, blockBad, isSome, callGood, orElse, badLine}
-use Rattle.load.specs.Load.{loadOf}
+use Rattle.load.specs.declared.Verdict.{Verdict}
+use Rattle.load.specs.declared.Verdict.the-variants.{Accepted, Refused}
+use Rattle.load.specs.Load.{verdictOf, loadOf}
 use Rattle.load.proofs.Accepted.{bad-none}
 use Rattle.print.specs.Lines.{callLine}
 use Rattle.load.specs.Round.{callsFrom, callsOf, callAt}
 use Rattle.load.proofs.Laws.{rows-cut, last-bad, last-step}
 use Rattle.round.specs.declared.Played.{Played}
 use Rattle.round.specs.Played.{played}
-use Rattle.round.specs.Round.{lineOf, playFrom, answerLine, RoundRuns}
+use Rattle.round.specs.Round.{playedLine, playFrom, answerLine, RoundRuns, namesLine, outputWith, outputOf, OutputRuns}
 use Rattle.round.proofs.Calls.{Formed, call-formed, Faithful, faithful}
 
 call-faithful : (t : Table) (c : Call words) → Formed c → Faithful t c
@@ -65,7 +67,7 @@ module _ (text : List ℕ) (names : ℕ) where
   play-none (suc k) at t h = rw (le-ltb _ _ h)
 
   play-one : (k at : ℕ) (t : Table) → at < length text
-      → playFrom text names (suc k) at t ≡ lineOf (played t (callAt text names at)) ∷ playFrom text names k (nextLine text at) (played t (callAt text names at) .table)
+      → playFrom text names (suc k) at t ≡ playedLine (played t (callAt text names at)) ∷ playFrom text names k (nextLine text at) (played t (callAt text names at) .table)
   unfolding playFrom
   play-one k at t h = rw (lt-ltb _ _ h)
 
@@ -79,8 +81,8 @@ module _ (text : List ℕ) (names : ℕ) where
     unfolding callAt
     call-is = ap asCallRow e
 
-    first : lineOf (played t (callAt text names at)) ≡ callLine (answer hub t c .entry) (answer hub t c .part)
-    first = ap (λ (r : CallRow). lineOf (played t r)) call-is ∙ (call-faithful t c (call-formed hs (fieldsOf (lineAt text at)) c e) .line)
+    first : playedLine (played t (callAt text names at)) ≡ callLine (answer hub t c .entry) (answer hub t c .part)
+    first = ap (λ (r : CallRow). playedLine (played t r)) call-is ∙ (call-faithful t c (call-formed hs (fieldsOf (lineAt text at)) c e) .line)
 
     next : played t (callAt text names at) .table ≡ step hub t c
     next = ap (λ (r : CallRow). played t r .table) call-is ∙ call-faithful t c (call-formed hs (fieldsOf (lineAt text at)) c e) .table
@@ -157,3 +159,10 @@ round-runs text e =
     let q = else-none _ _ (else-none _ _ b) in
     steps text (callsAt text .at) (length text) (nextLine text (callsAt text .at)) (callsAt text .line + 1) 0 (loadOf text .table) (omega arith) (omega arith)
     (rows-none text (callsAt text) (calls-line-number text) q)
+
+pub output-runs : OutputRuns
+output-runs text = go (verdictOf text) refl
+  where
+    go : (v : Verdict) → verdictOf text ≡ v → outputOf text ≡ outputWith text (trace (step hub) answerLine (loadOf text .table) (callsOf text))
+    go Accepted e = rw e (ap (λ (ls : List (List ℕ)). namesLine ∷ ls) (round-runs text e))
+    go (Refused n l) e = rw e refl

@@ -16,17 +16,17 @@ use Rattle.monitor.specs.Table.{hub}
 use Rattle.text.specs.Lines.{nextLine}
 use Rattle.load.specs.declared.Verdict.the-variants.{Accepted}
 use Rattle.load.specs.Blocks.{callsAt}
-use Rattle.load.specs.Load.{verdictOf, loadOf}
+use Rattle.load.specs.Load.{numberOf, lineOf, verdictOf, onAccepted, loadOf}
 use Rattle.load.specs.Round.{callsOf, callAt}
-use Rattle.print.specs.Lines.{callLine}
+use Rattle.print.specs.Lines.{callLine, refusedLine}
 use Rattle.round.specs.declared.Played.{Played}
 use Rattle.round.specs.Played.{played}
 
 -- ---- by the program's functions
 
 -- the line of a call that was played: its record, and the front of its buffer
-abbrev pub lineOf : Played → List ℕ
-lineOf p = callLine (p .entry) (take (p .len) (p .buffer))
+abbrev pub playedLine : Played → List ℕ
+playedLine p = callLine (p .entry) (take (p .len) (p .buffer))
 
 -- Line after line from a place on, at most k, each played on the table that the one before left
 module _ (text : List ℕ) (names : ℕ) where
@@ -34,7 +34,7 @@ module _ (text : List ℕ) (names : ℕ) where
   playFrom zero at t = []
   playFrom (suc k) at t =
       cond (ltb at (length text))
-      (lineOf (played t (callAt text names at)) ∷ playFrom k (nextLine text at) (played t (callAt text names at) .table))
+      (playedLine (played t (callAt text names at)) ∷ playFrom k (nextLine text at) (played t (callAt text names at) .table))
       []
 
 abbrev pub roundOf : List ℕ → List (List ℕ)
@@ -49,3 +49,20 @@ answerLine t c = callLine (answer hub t c .entry) (answer hub t c .part) ∷ []
 -- The lines of an accepted text's round are those of the run of its calls from its table
 abbrev pub RoundRuns : Type 0
 RoundRuns = (text : List ℕ) → verdictOf text ≡ Accepted → roundOf text ≡ trace (step hub) answerLine (loadOf text .table) (callsOf text)
+
+-- ---- what the program prints
+
+-- the line of names, `record data`
+abbrev pub namesLine : List ℕ
+namesLine = 114 ∷ 101 ∷ 99 ∷ 111 ∷ 114 ∷ 100 ∷ 32 ∷ 100 ∷ 97 ∷ 116 ∷ 97 ∷ 10 ∷ []
+
+-- the line of names before the lines of the calls; of a refused text only its number and line
+abbrev pub outputWith : List ℕ → List (List ℕ) → List (List ℕ)
+outputWith text lines = onAccepted (verdictOf text) (namesLine ∷ lines) (refusedLine (numberOf (verdictOf text)) (lineOf (verdictOf text)) ∷ [])
+
+abbrev pub outputOf : List ℕ → List (List ℕ)
+outputOf text = outputWith text (roundOf text)
+
+-- For every text the output is that of the run of its calls
+abbrev pub OutputRuns : Type 0
+OutputRuns = (text : List ℕ) → outputOf text ≡ outputWith text (trace (step hub) answerLine (loadOf text .table) (callsOf text))
