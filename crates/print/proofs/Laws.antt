@@ -12,7 +12,7 @@ use lib.Seq.{drop-cons, sets, sets-eq, getD-set-same, drop-set-lt, take-all}
 use lib.Dec.{eqb, leb}
 use borrow.Author.Tests.{eq-eqb, ne-eqb, le-leb, lt-ltb, le-ltb}
 use mathlib.Core.Bool.{Bool, true, false, cond}
-use Rattle.print.specs.Lines.{digitText, hexText, dataText, callLine, printed, printedLength, decimalOnto, decimalText, refusedLine, noLine, short}
+use Rattle.print.specs.Lines.{digitText, hexText, dataText, callLine, printed, printedLength, decimalOnto, decimalText, refusedLine, noLine, short, recordLine, refusedBy}
 
 pub hex-end : (out src : List ℕ) (k i : ℕ) → length src ≤ i → sets out k (hexText (drop i src)) ≡ out
 unfolding hexText
@@ -158,7 +158,7 @@ bytes-step out src k i h = rw (drop-cons src i 0 h, add-one i, add-one k)
 pub digits-part : (bytes : List ℕ) (from : ℕ) → length bytes ≡ 20 → take (20 - from) (drop from bytes) ≡ drop from bytes
 digits-part bytes from h = take-all (20 - from) (drop from bytes) (omega (arith, length-drop from bytes))
 
-abbrev refusedText : List ℕ
+abbrev pub refusedText : List ℕ
 refusedText = 114 ∷ 101 ∷ 102 ∷ 117 ∷ 115 ∷ 101 ∷ 100 ∷ 32 ∷ []
 
 abbrev lineText : List ℕ
@@ -185,6 +185,32 @@ module _ (n l : ℕ) (a b c d : ℕ) (ea : a ≡ 0 + 8) (eb : b ≡ a + length (
       ∙ ap (λ (k : ℕ). sets (sets (sets (sets out 0 refusedText) a (decimalText n)) b lineText) k (decimalText l ++ (10 ∷ []))) (sym ec)
       ∙ sets-append (sets (sets (sets out 0 refusedText) a (decimalText n)) b lineText) c (decimalText l) (10 ∷ [])
       ∙ ap (λ (k : ℕ). sets (sets (sets (sets (sets out 0 refusedText) a (decimalText n)) b lineText) c (decimalText l)) k (10 ∷ [])) (sym ed))
+
+-- ---- the lines of an audit
+
+module _ (entry : List ℕ) (e : length entry ≡ 16) where
+  pub record-length : 33 ≡ length (recordLine entry)
+  unfolding recordLine
+  record-length = omega (arith, length-append (hexText entry) (10 ∷ []), length-hex entry, e)
+
+  pub record-stored : (out : List ℕ) → set (sets out 0 (hexText entry)) 32 10 ≡ sets out 0 (recordLine entry)
+  unfolding recordLine
+  record-stored out =
+      let k : 32 ≡ 0 + length (hexText entry) = omega (arith, length-hex entry, e) in
+      ap (λ (i : ℕ). sets (sets out 0 (hexText entry)) i (10 ∷ [])) k ∙ sym (sets-append out 0 (hexText entry) (10 ∷ []))
+
+module _ (n a b : ℕ) (ea : a ≡ 0 + 8) (eb : b ≡ a + length (decimalText n)) where
+  pub by-length : b + 1 ≡ length (refusedBy n)
+  unfolding refusedBy
+  by-length = omega (arith, ea, eb, length-append (decimalText n) (10 ∷ []))
+
+  pub by-stored : (out : List ℕ) → sets (sets (sets out 0 refusedText) a (decimalText n)) b (10 ∷ []) ≡ sets out 0 (refusedBy n)
+  unfolding refusedBy
+  by-stored out = sym
+      (sets-append out 0 refusedText (decimalText n ++ (10 ∷ []))
+      ∙ ap (λ (k : ℕ). sets (sets out 0 refusedText) k (decimalText n ++ (10 ∷ []))) (sym ea)
+      ∙ sets-append (sets out 0 refusedText) a (decimalText n) (10 ∷ [])
+      ∙ ap (λ (k : ℕ). sets (sets (sets out 0 refusedText) a (decimalText n)) k (10 ∷ [])) (sym eb))
 
 pub length-none : length noLine ≡ 64
 unfolding noLine

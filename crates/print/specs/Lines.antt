@@ -40,6 +40,14 @@ refusedLine n l =
     (114 ∷ 101 ∷ 102 ∷ 117 ∷ 115 ∷ 101 ∷ 100 ∷ 32 ∷ [])
     ++ (decimalText n ++ ((32 ∷ 108 ∷ 105 ∷ 110 ∷ 101 ∷ 32 ∷ []) ++ (decimalText l ++ (10 ∷ []))))
 
+-- ---- the lines of an audit: a record, or `refused N`
+
+unfoldable pub recordLine : List ℕ → List ℕ
+recordLine entry = hexText entry ++ (10 ∷ [])
+
+unfoldable pub refusedBy : ℕ → List ℕ
+refusedBy n = (114 ∷ 101 ∷ 102 ∷ 117 ∷ 115 ∷ 101 ∷ 100 ∷ 32 ∷ []) ++ (decimalText n ++ (10 ∷ []))
+
 -- ---- a line at the front of a lent buffer, if there is room for it
 
 abbrev pub printed : List ℕ → List ℕ → List ℕ

@@ -1,4 +1,4 @@
-// The lines that hubcalls prints.
+// The lines that the programs print.
 ghost use mathlib.Core.Path.{_≡_};
 ghost use mathlib.Core.Bool.{cond};
 ghost use mathlib.Core.List.{List, [], _++_};
@@ -6,7 +6,7 @@ ghost use Prim.Native.Nat.{ℕ, _+_, _*_, _<_, _≤_};
 ghost use lib.ListN.{length, drop};
 ghost use lib.Seq.{sets};
 ghost use lib.Dec.{leb, eqb};
-ghost use Rattle.print.specs.Lines.{digitText, hexText, callLine, printed, printedLength, decimalText, refusedLine, noLine, short};
+ghost use Rattle.print.specs.Lines.{digitText, hexText, callLine, printed, printedLength, decimalText, refusedLine, recordLine, refusedBy, noLine, short};
 
 fn digit(n: u8) -> u8
     requires { ⌜ n < 16 ⌝ }
@@ -164,5 +164,32 @@ pub fn refused_line(number: u8, line: usize) -> Short
     Short {
         bytes: bytes,
         len: e,
+    }
+}
+
+// The line of a record that an audit shows.
+pub fn record_line(entry: [u8; 16]) -> Short
+    ensures { λ r. ⌜ r ≡ short (recordLine entry) ⌝ }
+{
+    let mut bytes = no_line();
+    hex_into(&entry, &mut bytes, 0);
+    bytes[32] = 10;
+    Short {
+        bytes: bytes,
+        len: 33,
+    }
+}
+
+// The line of a refused audit.
+pub fn refused_by(number: u8) -> Short
+    ensures { λ r. ⌜ r ≡ short (refusedBy number) ⌝ }
+{
+    let mut bytes = no_line();
+    let a = bytes_into(b"refused ", &mut bytes, 0);
+    let b = put_decimal(number as u64, &mut bytes, a);
+    let c = bytes_into(b"\n", &mut bytes, b);
+    Short {
+        bytes: bytes,
+        len: c,
     }
 }

@@ -2,12 +2,12 @@
 -- Assumes nothing.
 use mathlib.Core.Path.{_≡_, refl, sym, ap, ap₂, subst, _∙_}
 use mathlib.Core.Bool.{Bool, true, false, cond, _&&_}
-use mathlib.Core.List.{List, [], _∷_}
+use mathlib.Core.List.{List, [], _∷_, _++_}
 use mathlib.Core.Option.{Option, none, some}
 use Prim.Native.Nat.{ℕ, zero, suc, _+_, _≤_, _<_}
 use native.Mathlib.Omega.{arith}
 use lib.Dec.{eqb, ltb}
-use lib.ListN.{length, drop}
+use lib.ListN.{length, take, drop}
 use borrow.Author.Tests.{eq-eqb, ne-eqb, eqb-false, ltb-true, ltb-false, lt-ltb, le-ltb}
 use Rattle.rules.specs.Calls.{Call}
 use Rattle.rules.specs.Refusals.{step}
@@ -17,7 +17,7 @@ use Rattle.label.specs.Words.{words}
 use Rattle.monitor.specs.declared.Table.{Table}
 use Rattle.monitor.specs.Table.{hub}
 use Rattle.text.specs.Lines.{Lines, done, cut, line, linesOf, lineEnd, lineAt, nextLine, fieldsOf, namesOnce}
-use Rattle.text.proofs.Laws.{line-ends, line-here, lines-end, next-whole}
+use Rattle.text.proofs.Laws.{line-ends, line-here, lines-end, next-whole, next-later}
 use Rattle.rows.specs.Calls.{callOf, asCallRow}
 use Rattle.rows.specs.Names.{callNames}
 use Rattle.rows.specs.declared.CallRow.{CallRow}
@@ -32,7 +32,8 @@ use Rattle.load.specs.Round.{callsFrom, callsOf, callAt}
 use Rattle.load.proofs.Laws.{rows-cut, last-bad, last-step}
 use Rattle.round.specs.declared.Played.{Played}
 use Rattle.round.specs.Played.{played}
-use Rattle.round.specs.Round.{playedLine, playFrom, answerLine, RoundRuns, namesLine, outputWith, outputOf, OutputRuns}
+use Rattle.round.specs.Round.{playedLine, noLine, asLine, stepWith, stepOf, playFrom, answerLine, RoundRuns, namesLine, outputWith, outputOf, OutputRuns}
+use Rattle.round.proofs.Fit.{take-front}
 use Rattle.round.proofs.Calls.{Formed, call-formed, Faithful, faithful}
 
 call-faithful : (t : Table) (c : Call words) → Formed c → Faithful t c
@@ -54,6 +55,11 @@ end-later : (text : List ℕ) (at : ℕ) → at ≤ lineEnd text at
 unfolding lineEnd
 end-later text at = omega arith
 
+-- the next line stands later in the text
+pub step-later : (text : List ℕ) (names at : ℕ) (t : Table) → at < length text → at < stepOf text names at t .at
+unfolding stepWith
+step-later text names at t h = next-later text at h
+
 module _ (text : List ℕ) (names : ℕ) where
   abbrev hs : List (List ℕ)
   hs = fieldsOf (lineAt text names)
@@ -68,8 +74,11 @@ module _ (text : List ℕ) (names : ℕ) where
 
   play-one : (k at : ℕ) (t : Table) → at < length text
       → playFrom text names (suc k) at t ≡ playedLine (played t (callAt text names at)) ∷ playFrom text names k (nextLine text at) (played t (callAt text names at) .table)
-  unfolding playFrom
-  play-one k at t h = rw (lt-ltb _ _ h)
+  unfolding playFrom stepWith asLine
+  play-one k at t h =
+      let l = playedLine (played t (callAt text names at)) in
+      let f : take (length l) (l ++ drop (length l) noLine) ≡ l = take-front l (drop (length l) noLine) in
+      rw (lt-ltb _ _ h, f)
 
   run-none : (at : ℕ) (t : Table) → length text ≤ at → run t (linesOf (drop at text)) ≡ []
   unfolding run

@@ -2,10 +2,10 @@
 -- Assumes nothing.
 use mathlib.Core.Path.{_≡_}
 use mathlib.Core.Bool.{cond}
-use mathlib.Core.List.{List, [], _∷_}
+use mathlib.Core.List.{List, [], _∷_, _++_}
 use Prim.Native.Nat.{ℕ, zero, suc}
 use lib.Dec.{ltb}
-use lib.ListN.{length, take}
+use lib.ListN.{length, take, drop, replicate}
 use Rattle.rules.specs.Calls.{Call}
 use Rattle.rules.specs.Refusals.{step}
 use Rattle.rules.specs.Record.{answer}
@@ -20,6 +20,8 @@ use Rattle.load.specs.Load.{numberOf, lineOf, verdictOf, onAccepted, loadOf}
 use Rattle.load.specs.Round.{callsOf, callAt}
 use Rattle.print.specs.Lines.{callLine, refusedLine}
 use Rattle.round.specs.declared.Played.{Played}
+use Rattle.round.specs.declared.Line.{Line}
+use Rattle.round.specs.declared.Step.{Step}
 use Rattle.round.specs.Played.{played}
 
 -- ---- by the program's functions
@@ -28,14 +30,26 @@ use Rattle.round.specs.Played.{played}
 abbrev pub playedLine : Played → List ℕ
 playedLine p = callLine (p .entry) (take (p .len) (p .buffer))
 
+-- a line in 162 bytes, which a record and 64 bytes shown take, zeros after it
+unfoldable pub noLine : List ℕ
+noLine = replicate 162 0
+
+unfoldable pub asLine : List ℕ → Line
+asLine l = record { bytes = l ++ drop (length l) noLine; len = length l }
+
+-- one line of calls at a place, played on a table
+unfoldable pub stepWith : List ℕ → ℕ → Played → Step
+stepWith text at p = record { table = p .table; at = nextLine text at; line = asLine (playedLine p) }
+
+abbrev pub stepOf : List ℕ → ℕ → ℕ → Table → Step
+stepOf text names at t = stepWith text at (played t (callAt text names at))
+
 -- Line after line from a place on, at most k, each played on the table that the one before left
 module _ (text : List ℕ) (names : ℕ) where
   unfoldable pub playFrom : ℕ → ℕ → Table → List (List ℕ)
   playFrom zero at t = []
   playFrom (suc k) at t =
-      cond (ltb at (length text))
-      (playedLine (played t (callAt text names at)) ∷ playFrom k (nextLine text at) (played t (callAt text names at) .table))
-      []
+      let s = stepOf text names at t in cond (ltb at (length text)) (take (s .line .len) (s .line .bytes) ∷ playFrom k (s .at) (s .table)) []
 
 abbrev pub roundOf : List ℕ → List (List ℕ)
 roundOf text = playFrom text (callsAt text .at) (length text) (nextLine text (callsAt text .at)) (loadOf text .table)

@@ -2,9 +2,11 @@
 ghost use mathlib.Core.Path.{_≡_};
 ghost use Prim.Native.Nat.{ℕ};
 ghost use lib.ListN.{length, take};
+ghost use Rattle.print.specs.Lines.{callLine, printed, printedLength};
 ghost use Rattle.rules.specs.Calls.{put};
 ghost use Rattle.monitor.specs.Calls.{reply};
 ghost use Rattle.round.specs.Played.{noBuffer, quiet, showing, unplayed, played};
+ghost use Rattle.round.specs.Round.{noLine, asLine, stepOf};
 use monitor::Reply;
 use monitor::Table;
 use rows::Asked;
@@ -95,5 +97,63 @@ pub fn play(table: Table, row: CallRow) -> Played
         Asked::Release(i, j) => quiet(table.release(i, j)),
         Asked::Hand(i, j, n, p) => quiet(table.hand(i, j, n, p)),
         Asked::Bad => unplayed(table),
+    }
+}
+
+// A printed line: the first len of some bytes.
+pub struct Line {
+    pub bytes: [u8; 162],
+    pub len: usize,
+}
+
+// What a line of calls comes to: the table after its call, where the next line starts, and what is printed.
+pub struct Step {
+    pub table: Table,
+    pub at: usize,
+    pub line: Line,
+}
+
+fn no_line() -> [u8; 162]
+    ensures { λ r. ⌜ r ≡ noLine ⌝ }
+{
+    [0u8; 162]
+}
+
+// Writes the line of a record and of the first n bytes of a buffer.
+fn line_into(entry: [u8; 16], buffer: [u8; 64], n: usize, out: &mut [u8]) -> usize
+    ensures { λ r. ⌜ (now (out .exit) ≡ printed (callLine entry (take n buffer)) (now (out .entry))) × (r ≡ printedLength (callLine entry (take n buffer)) (now (out .entry))) ⌝ }
+{
+    if n <= 64 {
+        return print::call_line(&entry, &buffer[..n], out);
+    }
+    print::call_line(&entry, &buffer, out)
+}
+
+// The line of a record and of the first n bytes of a buffer.
+fn line_of(entry: [u8; 16], buffer: [u8; 64], n: usize) -> Line
+    ensures { λ r. ⌜ r ≡ asLine (callLine entry (take n buffer)) ⌝ }
+{
+    let mut bytes = no_line();
+    let len = line_into(entry, buffer, n, &mut bytes);
+    Line {
+        bytes: bytes,
+        len: len,
+    }
+}
+
+// Plays the line of calls at a place of a text, whose line of names stands at another, on a table.
+pub fn play_at(text: &[u8], names: usize, at: usize, table: Table) -> Step
+    ensures { λ r. ⌜ r ≡ stepOf (now (text .entry)) names at table ⌝ }
+{
+    let p = play(table, load::call_at(text, names, at));
+    let next = p.table;
+    let entry = p.entry;
+    let buffer = p.buffer;
+    let line = line_of(entry, buffer, p.len);
+    let after = text::next_line(text, at);
+    Step {
+        table: next,
+        at: after,
+        line: line,
     }
 }

@@ -13,7 +13,7 @@ use native.Mathlib.Omega.{arith}
 use lib.Dec.{eqb, leb, ltb}
 use lib.ListN.{length, getD, take, drop, set, replicate, drop-of-length-le, length-drop, length-append, length-replicate}
 use lib.Seq.{drop-cons, take-all, take-nil, take-append-seam, set-append-seam, drop-drop}
-use borrow.Author.Tests.{eq-eqb, ne-eqb, lt-ltb, le-ltb, le-leb, lt-leb}
+use borrow.Author.Tests.{eq-eqb, ne-eqb, lt-ltb, le-ltb, le-leb, lt-leb, ltb-true, ltb-false}
 use Rattle.label.specs.declared.Label.{Label}
 use Rattle.label.specs.Tags.{empty, withDigit}
 use Rattle.text.specs.Bytes.{eqBytes, indexOf, digitOf, decimalFrom, decimalOf, setFrom, setOf, pairsFrom, dataOf, dash}
@@ -493,3 +493,16 @@ module _ (text : List ℕ) (at : ℕ) where
   line-here e q h k =
       let l = line-ends text at e h q in
       record { later = omega arith; within = omega arith; is = l .whole k ∙ ap (λ (x : List ℕ). line x (linesOf (drop (e + 1) text))) (line-part text at e q) }
+
+-- the next line stands later in the text
+pub next-later : (text : List ℕ) (at : ℕ) → at < length text → at < nextLine text at
+next-later text at h = go (ltb (lineEnd text at) (length text)) refl
+  where
+    go : (t : Bool) → ltb (lineEnd text at) (length text) ≡ t → at < nextLine text at
+    go true e =
+        let k = ltb-true (lineEnd text at) (length text) e in
+        let l = line-ends text at (lineEnd text at) (omega arith) refl in
+        rw (next-whole text at k) (omega arith)
+    go false e =
+        let k = ltb-false (lineEnd text at) (length text) e in
+        rw (next-none text at k) (omega arith)

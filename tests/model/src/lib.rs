@@ -10,7 +10,7 @@
 //! - `record`: the sixteen bytes and the need
 //! - `audit`: which records an auditor is shown
 //! - `text`: the loader
-//! - `hubcalls`: what the program prints
+//! - `hubcalls`, `hubaudit`: what the programs print
 //! - `raw`: tables that may lack the form, and 99
 //! - `script`: the line-based scripts of SCRIPT.md
 //!
@@ -23,6 +23,7 @@ pub mod effect;
 pub mod generate;
 pub mod hex;
 pub mod hub;
+pub mod hubaudit;
 pub mod hubcalls;
 pub mod raw;
 pub mod record;
