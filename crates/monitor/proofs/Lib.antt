@@ -3,6 +3,7 @@ pub mod Groups
 pub mod Form
 pub mod Finish
 pub mod Written
+pub mod Reader
 pub mod Audit
 pub mod ShowLaws
 pub mod AuditLaws

@@ -3,3 +3,4 @@ pub mod Calls
 pub mod Parts
 pub mod Claims
 pub mod Ends
+pub mod Reader
