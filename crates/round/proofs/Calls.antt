@@ -27,7 +27,8 @@ use Rattle.rows.specs.declared.Form.{Form}
 use Rattle.rows.specs.declared.Form.the-variants as Form
 use Rattle.print.specs.Lines.{callLine}
 use Rattle.round.specs.declared.Played.{Played}
-use Rattle.round.specs.Played.{noBuffer, quiet, showing, played}
+use Rattle.rows.specs.Calls.{showBuffer}
+use Rattle.round.specs.Played.{quiet, showing, played}
 use Rattle.round.specs.Round.{playedLine}
 
 -- ---- the call of a line has one of the nine forms
@@ -86,15 +87,15 @@ put-faithful t i bs = record {
   table = ap (λ (l : List ℕ). step hub t (put i l)) (take-room bs);
 }
 
-show-faithful : (t : Table) (i : ℕ) → Faithful t (Rattle.rules.specs.Calls.show i noBuffer)
+show-faithful : (t : Table) (i : ℕ) → Faithful t (Rattle.rules.specs.Calls.show i showBuffer)
 unfolding showing reply shownPart shownBuffer
 show-faithful t i =
-    let a = answer hub t (Rattle.rules.specs.Calls.show i noBuffer) in
+    let a = answer hub t (Rattle.rules.specs.Calls.show i showBuffer) in
     record { line = ap (callLine (a .entry)) (take-append-seam (a .part) _); table = refl }
 
 module _ (t : Table) (i j n p : ℕ) (bs : List ℕ) where
   pub faithful : (k : Form) → Faithful t (callAs k i j n p bs)
-  unfolding quiet reply noBuffer
+  unfolding quiet reply showBuffer
   faithful Form.Put = put-faithful t i bs
   faithful Form.Show = show-faithful t i
   faithful Form.Send = record { line = refl; table = refl }

@@ -10,27 +10,24 @@ use Rattle.monitor.specs.Calls.{reply, shownPart, shownBuffer}
 use Rattle.rows.specs.declared.Asked.{Asked}
 use Rattle.rows.specs.declared.Asked.the-variants as Asked
 use Rattle.rows.specs.declared.CallRow.{CallRow}
+use Rattle.rows.specs.Calls.{showBuffer}
 use Rattle.round.specs.declared.Played.{Played}
-
--- show's buffer has 64 bytes
-unfoldable pub noBuffer : List ℕ
-noBuffer = replicate 64 0
 
 -- the next table and the record; nothing is shown
 unfoldable pub quiet : Reply → Played
-quiet r = record { table = r .table; entry = r .answer .entry; buffer = noBuffer; len = 0 }
+quiet r = record { table = r .table; entry = r .answer .entry; buffer = showBuffer; len = 0 }
 
 unfoldable pub showing : Table → ℕ → Played
 showing t i = record {
-  table = reply t (Rattle.rules.specs.Calls.show i noBuffer) .table;
-  entry = reply t (Rattle.rules.specs.Calls.show i noBuffer) .answer .entry;
-  buffer = shownBuffer t i noBuffer;
-  len = length (shownPart t i noBuffer);
+  table = reply t (Rattle.rules.specs.Calls.show i showBuffer) .table;
+  entry = reply t (Rattle.rules.specs.Calls.show i showBuffer) .answer .entry;
+  buffer = shownBuffer t i showBuffer;
+  len = length (shownPart t i showBuffer);
 }
 
 -- no call: the table as it is
 unfoldable pub unplayed : Table → Played
-unplayed t = record { table = t; entry = replicate 16 0; buffer = noBuffer; len = 0 }
+unplayed t = record { table = t; entry = replicate 16 0; buffer = showBuffer; len = 0 }
 
 abbrev pub playedBy : Table → Asked → List ℕ → Played
 playedBy t (Asked.Put i n) bytes = quiet (reply t (put i (take n bytes)))

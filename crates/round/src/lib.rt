@@ -2,10 +2,11 @@
 ghost use mathlib.Core.Path.{_≡_};
 ghost use Prim.Native.Nat.{ℕ};
 ghost use lib.ListN.{length, take};
+ghost use Rattle.rows.specs.Calls.{showBuffer};
 ghost use Rattle.print.specs.Lines.{callLine, printed, printedLength};
 ghost use Rattle.rules.specs.Calls.{put};
 ghost use Rattle.monitor.specs.Calls.{reply};
-ghost use Rattle.round.specs.Played.{noBuffer, quiet, showing, unplayed, played};
+ghost use Rattle.round.specs.Played.{quiet, showing, unplayed, played};
 ghost use Rattle.round.specs.Round.{noLine, asLine, stepOf};
 use monitor::Reply;
 use monitor::Table;
@@ -21,7 +22,7 @@ pub struct Played {
 }
 
 fn no_buffer() -> [u8; 64]
-    ensures { λ r. ⌜ r ≡ noBuffer ⌝ }
+    ensures { λ r. ⌜ r ≡ showBuffer ⌝ }
 {
     [0u8; 64]
 }

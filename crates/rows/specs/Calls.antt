@@ -1,12 +1,13 @@
 -- Document 01, 'The text': one line of values of the calls.
 -- Assumes nothing.
 use Prim.Native.Nat.{ℕ}
+use mathlib.Core.Path.{_≡_}
 use mathlib.Core.Bool.{Bool, true, false, cond}
 use mathlib.Core.List.{List, []}
 use mathlib.Core.Option.{Option, none, some}
 use lib.ListN.{length, replicate}
 use lib.Dec.{eqb}
-use Rattle.rules.specs.Calls.{Call, put, show, send, fetch, addTag, dropTag, create, release, hand}
+use Rattle.rules.specs.Calls.{Call, fieldsOf, put, show, send, fetch, addTag, dropTag, create, release, hand}
 use Rattle.label.specs.Words.{words}
 use Rattle.text.specs.Bytes.{eqBytes, decimalOf, dataOf, dash}
 use Rattle.text.specs.Lines.{under}
@@ -88,11 +89,14 @@ numberIf used f = cond used (decimalOf 255 f) (cond (eqBytes f dash) (some 255) 
 unfoldable pub dataIf : Bool → List ℕ → Option (List ℕ)
 dataIf used f = cond used (dataOf 255 f) (cond (eqBytes f dash) (some []) none)
 
--- the call of a form, by a caller, with the other's slot, the set field, the tag and the data as far as it uses them;
--- show's buffer is 64 bytes, all zero
+-- show's buffer has 64 bytes
+unfoldable pub showBuffer : List ℕ
+showBuffer = replicate 64 0
+
+-- the call of a form, by a caller, with the other's slot, the set field, the tag and the data as far as it uses them
 abbrev pub callAs : Form → ℕ → ℕ → ℕ → ℕ → List ℕ → Call words
 callAs Form.Put i j n p bs = put i bs
-callAs Form.Show i j n p bs = show i (replicate 64 0)
+callAs Form.Show i j n p bs = show i showBuffer
 callAs Form.Send i j n p bs = send i j
 callAs Form.Fetch i j n p bs = fetch i j
 callAs Form.Add i j n p bs = addTag i n p
@@ -114,6 +118,13 @@ module _ (hs fs : List (List ℕ)) where
 
   unfoldable pub callOf : Option (Call words)
   callOf = cond (eqb (length fs) 6) (formOf (under callName hs fs) >>= callFrom) none
+
+-- The fields that a line must give are those that the call's record repeats
+abbrev pub UsedFields : Type 0
+UsedFields = (k : Form) (i j n p : ℕ) (bs : List ℕ)
+    → (fieldsOf (callAs k i j n p bs) .other ≡ cond (usesOther k) j 255)
+    × (fieldsOf (callAs k i j n p bs) .set ≡ cond (usesSet k) n 255)
+    × (fieldsOf (callAs k i j n p bs) .tag ≡ cond (usesTag k) (some p) none)
 
 -- ---- what the code answers
 
