@@ -326,6 +326,9 @@ fn lacking_form(rng: &mut Rng, script: &mut Script, turn: usize) {
             let buffer = rng.pick(&[0, 16, 40]);
             script.audit(rng, caller, made, buffer);
         }
+        if rng.chance(25) {
+            script.push("dump\n");
+        }
     }
     let text = round_draft(rng, 3, 1).text();
     script.push(&format!("load {}\n", hex::digits(&text)));
@@ -391,6 +394,11 @@ fn runs(rng: &mut Rng, script: &mut Script) {
     script.push(&table_lines(&table));
     audits_of_run(rng, script);
     some_calls(rng, script, &pool);
+    if rng.chance(15) {
+        for _ in 0..120 {
+            library_call(rng, script, &pool);
+        }
+    }
     let mut auditor = script.state.table.entities[7];
     auditor.kind = RawKind::Program;
     auditor.secrecy = rng.pick(&[0, u64::MAX, 1 << pool[0], auditor.secrecy | 1 << pool[1]]);
