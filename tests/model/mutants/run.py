@@ -10,9 +10,9 @@ A mutant is a file NAME.patch beside this program with three lines: `file: PATH`
 `old: LINE` and `new: LINE`. The one line of the file that equals LINE, spaces at
 its ends aside, is replaced. A mutant is caught when a case comes out differently.
 
-The last line says how many are caught. The stored cases catch all; two runs catch
-those only that leak. The exit is 1 if a mutant survives, if a
-patch does not fit, or if the model itself fails a case.
+The last line says how many are caught. The stored cases catch every mutant, pairs
+those that leak. The exit is 1 if a mutant survives, if a patch does not fit, or if
+the model itself fails a case.
 """
 import os
 import shutil
