@@ -16,26 +16,33 @@ def read(path):
 
 
 def fault(program, stem):
-    """Runs the pair of the files STEM.a.script, STEM.b.script and STEM.watch, and says what is wrong, None if nothing
-    is."""
-    tag, *watched = [line.split()[1:] for line in read(stem + '.watch').splitlines()]
-    runs = []
-    for script, calls in zip((stem + '.a.script', stem + '.b.script'), watched):
-        commands = [line for line in read(script).splitlines() if line.split()[0] not in SILENT]
-        with open(script) as given:
-            lines = subprocess.run([program], stdin=given, stdout=subprocess.PIPE).stdout.decode('latin-1').splitlines()
-        if len(lines) != len(commands):
-            return '%d lines for %d commands in %s' % (len(lines), len(commands), script)
-        for line, command in zip(lines, commands):
-            if not re.fullmatch(DUMP if command == 'dump' else ANSWER, line):
-                return 'a line of the wrong form in ' + script
-        at = commands.index('dump')
-        known = [line.rpartition(' ')[0] for line in lines]
-        runs.append(([known[int(call)] for call in calls], hidden(lines[at], int(tag[0])), known[at + 1:]))
-    for what, a, b in zip(('the answers to callers without the tag', 'the end tables', 'the audits'), *runs):
-        if a != b:
-            return what + ' differ'
+    """Runs the pair of STEM.a.script, STEM.b.script and STEM.watch, and says what is wrong, None if nothing is."""
+    (tag,), watched_a, watched_b = [line.split()[1:] for line in read(stem + '.watch').splitlines()]
+    ran = [answers(program, stem + '.a.script'), answers(program, stem + '.b.script')]
+    if None in ran:
+        return 'lines are missing, too many or of another form'
+    (calls_a, dump_a, audits_a), (calls_b, dump_b, audits_b) = ran
+    if [calls_a[int(number)] for number in watched_a] != [calls_b[int(number)] for number in watched_b]:
+        return 'the answers to callers without the tag differ'
+    if hidden(dump_a, int(tag)) != hidden(dump_b, int(tag)):
+        return 'the end tables differ'
+    if audits_a != audits_b:
+        return 'the audits differ'
     return None
+
+
+def answers(program, script):
+    """What a program answers to a script: the lines of the calls without digests, the dump, the lines of the audits
+    without digests. None if there is not one line of the right form for each command."""
+    text = read(script)
+    commands = [line for line in text.splitlines() if line.split()[0] not in SILENT]
+    lines = subprocess.run([program], input=text, stdout=subprocess.PIPE, encoding='latin-1').stdout.splitlines()
+    forms = [DUMP if command == 'dump' else ANSWER for command in commands]
+    if len(lines) != len(forms) or not all(map(re.fullmatch, forms, lines)):
+        return None
+    at = commands.index('dump')
+    known = [line.rpartition(' ')[0] for line in lines]
+    return known[:at], lines[at], known[at + 1:]
 
 
 def hidden(dump, tag):

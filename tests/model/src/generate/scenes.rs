@@ -199,12 +199,12 @@ fn audits_of_run(rng: &mut Rng, script: &mut Script) {
     }
 }
 
-/// Lists made by hand: any bytes 0 to 7, needs around the auditor's S.
+/// Lists made by hand: any bytes 0 to 7, needs around the S of some caller.
 fn lists(rng: &mut Rng, script: &mut Script) {
     let entities = rng.between(2, 6);
     let (mut table, pool) = table(rng, entities);
     let auditor = rng.below(SLOTS);
-    table.entities[auditor] = RawEntity { kind: RawKind::Program, ..table.entities[auditor] };
+    table.entities[auditor].kind = RawKind::Program;
     table.entities[auditor].secrecy |= 1 << 5 | 1 << 63;
     script.push(&table_lines(&table));
     every_need(rng, script, auditor as u8);
@@ -239,9 +239,14 @@ fn every_need(rng: &mut Rng, script: &mut Script, auditor: u8) {
     let lowest = secrecy & secrecy.wrapping_neg();
     let within = secrecy ^ lowest;
     let outside = !secrecy & (!secrecy).wrapping_neg();
-    let mut needs = [0, secrecy, within, lowest, secrecy | outside, within | outside, outside, u64::MAX];
+    let beyond = [secrecy | outside, within | outside, outside, u64::MAX];
+    let mut needs = [[0, secrecy, within, lowest], beyond].concat();
     rng.shuffle(&mut needs);
-    let list: Vec<u8> = needs.iter().flat_map(|need| [rng.bytes(8), need.to_le_bytes().to_vec()].concat()).collect();
+    let mut list = Vec::new();
+    for need in needs {
+        list.extend(rng.bytes(8));
+        list.extend(need.to_le_bytes());
+    }
     let exact = script.visible(auditor, &list);
     for length in [exact, exact - 1, exact - LENGTH, exact + 1, list.len() - 1, list.len(), list.len() + 3] {
         script.audit(rng, auditor, Some(&list), length);
