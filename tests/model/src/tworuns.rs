@@ -5,7 +5,7 @@ use crate::effect::Answer;
 use crate::generate::rng::Rng;
 use crate::generate::scenes::{call_line, table_lines};
 use crate::generate::world::{call, call_of, world};
-use crate::hub::{Hub, Kind, DROP_S, SLOTS};
+use crate::hub::{Hub, DROP_S, SLOTS};
 use crate::raw::Table;
 
 /// A starting table and a list of calls.
@@ -172,7 +172,8 @@ pub fn random_pair(rng: &mut Rng) -> Pair {
         struck_calls(rng, &mut a, &mut now_a, &world.pool, tag);
         struck_calls(rng, &mut b, &mut now_b, &world.pool, tag);
         let length = rng.pick(&[0, 1, 5, 63, 64, 70]);
-        let both = call(rng, &now_a, &world.pool, length);
+        let usual = call(rng, &now_a, &world.pool, length);
+        let both = if rng.chance(20) { probe(rng, &now_a, tag).unwrap_or(usual) } else { usual };
         push(&mut a, &mut now_a, both.clone());
         push(&mut b, &mut now_b, both);
     }
@@ -196,11 +197,19 @@ fn hide_under(rng: &mut Rng, hub: &mut Hub, tag: u8) {
     }
 }
 
+/// A fetch from an entity that bears the tag, by a program without it.
+fn probe(rng: &mut Rng, now: &Hub, tag: u8) -> Option<Call> {
+    let (hidden, open): (Vec<u8>, Vec<u8>) = (0..SLOTS as u8).partition(|slot| bears(now, *slot, tag));
+    let callers: Vec<u8> = open.into_iter().filter(|slot| now.program(*slot).is_some()).collect();
+    let both_there = !hidden.is_empty() && !callers.is_empty();
+    both_there.then(|| Call::fetch(rng.pick(&callers), rng.pick(&hidden)))
+}
+
 /// Some calls of one run only, by programs that bear the tag at that moment.
 fn struck_calls(rng: &mut Rng, run: &mut Run, now: &mut Hub, pool: &[u8], tag: u8) {
     for _ in 0..rng.pick(&[0, 0, 1, 2, 4]) {
         let bearers: Vec<u8> = (0..SLOTS as u8)
-            .filter(|slot| now.entity(*slot).is_some_and(|e| e.kind == Kind::Program) && bears(now, *slot, tag))
+            .filter(|slot| now.program(*slot).is_some() && bears(now, *slot, tag))
             .collect();
         if bearers.is_empty() {
             return;
