@@ -1,16 +1,18 @@
 #!/usr/bin/env python3
 """run.py DIRECTORY [NAME...]
 
-Runs the stored cases of a directory against the model and against each mutant.
+Runs the cases of a directory against the model and against each mutant.
 NAME.txt is a text and NAME.out the output expected for it; NAME.script is a
-script and NAME.sout the answers expected to it.
+script and NAME.sout the answers expected to it; NAME.watch is a pair of two runs,
+as the program `pairs` writes it, for the check of tests/pairs.py.
 
 A mutant is a file NAME.patch beside this program with three lines: `file: PATH`,
 `old: LINE` and `new: LINE`. The one line of the file that equals LINE, spaces at
 its ends aside, is replaced. A mutant is caught when a case comes out differently.
 
-The last line says how many are caught. The exit is 1 if a mutant survives, if a
-patch does not fit, or if the model itself fails a case.
+The last line says how many are caught. The stored cases catch every mutant, pairs
+those that leak. The exit is 1 if a mutant survives, if a patch does not fit, or if
+the model itself fails a case.
 """
 import os
 import shutil
@@ -20,6 +22,7 @@ import tempfile
 
 HERE = os.path.dirname(os.path.abspath(__file__))
 PACKAGE = os.path.dirname(HERE)
+sys.path.insert(0, os.path.dirname(PACKAGE))
 SECONDS = 20
 # Modules that make or check input and hold no rule; left out for a quicker build.
 LEFT_OUT = ("pub mod generate;", "pub mod tworuns;")
@@ -61,31 +64,36 @@ def build(root):
     return None
 
 
+def read(path):
+    with open(path, "rb") as file:
+        return file.read()
+
+
+def fails(root, stem, kind):
+    """Whether a case comes out otherwise than expected."""
+    if kind == ".watch":
+        from pairs import fault
+        return fault(os.path.join(root, "script"), stem) is not None
+    program, expected = {".txt": ("model", ".out"), ".script": ("script", ".sout")}[kind]
+    try:
+        done = subprocess.run([os.path.join(root, program)], input=read(stem + kind), timeout=SECONDS,
+                              stdout=subprocess.PIPE, stderr=subprocess.DEVNULL)
+    except subprocess.TimeoutExpired:
+        return True
+    return done.returncode != 0 or done.stdout != read(stem + expected)
+
+
 def read_cases(directory):
-    cases = []
-    for name in sorted(os.listdir(directory)):
-        stem, kind = os.path.splitext(name)
-        program, expected = {".txt": ("model", ".out"), ".script": ("script", ".sout")}.get(kind, (None, None))
-        if program is None:
-            continue
-        with open(os.path.join(directory, name), "rb") as given:
-            given = given.read()
-        with open(os.path.join(directory, stem + expected), "rb") as wanted:
-            wanted = wanted.read()
-        cases.append((name, program, given, wanted))
-    return cases
+    paths = [os.path.splitext(os.path.join(directory, name)) for name in sorted(os.listdir(directory))]
+    pairs = [path for path in paths if path[1] == ".watch"]
+    return pairs or [path for path in paths if path[1] in (".txt", ".script")]
 
 
 def differing(root, cases):
     """The name of the first case that comes out differently, or None."""
-    for name, program, given, wanted in cases:
-        try:
-            done = subprocess.run([os.path.join(root, program)], input=given, timeout=SECONDS,
-                                  stdout=subprocess.PIPE, stderr=subprocess.DEVNULL)
-        except subprocess.TimeoutExpired:
-            return name
-        if done.returncode != 0 or done.stdout != wanted:
-            return name
+    for stem, kind in cases:
+        if fails(root, stem, kind):
+            return os.path.basename(stem) + kind
     return None
 
 

@@ -7,26 +7,75 @@ use crate::text::load;
 
 /// Runs a script and gives its output, or the number of a line that is no command.
 pub fn run(script: &str) -> Result<String, usize> {
-    let mut table = Table::empty();
+    let mut state = State::start();
     let mut output = String::new();
     for (index, line) in script.lines().enumerate() {
-        let words: Vec<&str> = line.split_whitespace().collect();
-        if words.is_empty() || words[0].starts_with('#') {
-            continue;
-        }
-        let done = set_up(&mut table, &words).is_some()
-            || act(&mut table, &words).map(|answer| output.push_str(&answer)).is_some();
-        if !done {
-            return Err(index + 1);
-        }
+        output.push_str(&state.line(line).ok_or(index + 1)?);
     }
     Ok(output)
 }
 
-/// Commands that write the table and print nothing.
-fn set_up(table: &mut Table, words: &[&str]) -> Option<()> {
+/// What the lines of a script have made so far.
+pub struct State {
+    pub table: Table,
+    /// The list that `run` stands for in an audit.
+    pub records: Vec<u8>,
+}
+
+impl State {
+    pub fn start() -> State {
+        State { table: Table::empty(), records: Vec::new() }
+    }
+
+    /// Runs one line and gives what it prints; none if it is no command.
+    pub fn line(&mut self, line: &str) -> Option<String> {
+        let words: Vec<&str> = line.split_whitespace().collect();
+        match words.as_slice() {
+            ["table"] => *self = State::start(),
+            [] => {}
+            [first, ..] if first.starts_with('#') => {}
+            words => return set_up(&mut self.table, words).or_else(|| self.act(words)),
+        }
+        Some(String::new())
+    }
+
+    /// Commands that answer with one line.
+    fn act(&mut self, words: &[&str]) -> Option<String> {
+        let State { table, records } = self;
+        Some(match words {
+            ["dump"] => hex::digits(&table.bytes()) + "\n",
+            ["audit", caller, list, length, fill] => {
+                let list = if *list == "run" { records.clone() } else { bytes(list)? };
+                let audit = table.audit(byte(caller)?, &list, &buffer(length, fill)?);
+                answer_line(audit.number, "-", &audit.part, &audit.buffer, table)
+            }
+            ["load", text] => {
+                let (number, line) = match load(&bytes(text)?) {
+                    Ok((hub, _)) => {
+                        *table = Table::of_hub(&hub);
+                        (0, 0)
+                    }
+                    Err(refused) => {
+                        *table = Table::empty();
+                        (refused.number, refused.line)
+                    }
+                };
+                answer_line(number, &format!("line{line}"), &[], &[], table)
+            }
+            _ => {
+                let (next, answer) = table.call(&call(words)?);
+                *table = next;
+                records.extend(answer.record);
+                let record = hex::digits(&answer.record);
+                answer_line(answer.number, &record, &answer.part, &answer.buffer, table)
+            }
+        })
+    }
+}
+
+/// Commands that write a part of the table and print nothing.
+fn set_up(table: &mut Table, words: &[&str]) -> Option<String> {
     match words {
-        ["table"] => *table = Table::empty(),
         ["slot", slot, kind, s, i, sa, sd, ia, id, length] => {
             let entity = RawEntity {
                 kind: match *kind {
@@ -58,36 +107,7 @@ fn set_up(table: &mut Table, words: &[&str]) -> Option<()> {
         }
         _ => return None,
     }
-    Some(())
-}
-
-/// Commands that answer with one line.
-fn act(table: &mut Table, words: &[&str]) -> Option<String> {
-    match words {
-        ["audit", caller, list, length, fill] => {
-            let audit = table.audit(byte(caller)?, &bytes(list)?, &buffer(length, fill)?);
-            Some(answer_line(audit.number, "-", &audit.part, &audit.buffer, table))
-        }
-        ["load", text] => {
-            let (number, line) = match load(&bytes(text)?) {
-                Ok((hub, _)) => {
-                    *table = Table::of_hub(&hub);
-                    (0, 0)
-                }
-                Err(refused) => {
-                    *table = Table::empty();
-                    (refused.number, refused.line)
-                }
-            };
-            Some(answer_line(number, &format!("line{line}"), &[], &[], table))
-        }
-        _ => {
-            let (next, answer) = table.call(&call(words)?);
-            *table = next;
-            let record = hex::digits(&answer.record);
-            Some(answer_line(answer.number, &record, &answer.part, &answer.buffer, table))
-        }
-    }
+    Some(String::new())
 }
 
 fn answer_line(number: u8, record: &str, part: &[u8], buffer: &[u8], table: &Table) -> String {

@@ -1,10 +1,12 @@
-//! The claim about two runs, checked whole on one pair of runs.
+//! The claim about two runs, checked whole on one pair of runs, and pairs as scripts.
 
 use crate::call::{Call, Name};
 use crate::effect::Answer;
 use crate::generate::rng::Rng;
+use crate::generate::scenes::{call_line, table_lines};
 use crate::generate::world::{call, call_of, world};
-use crate::hub::{Hub, Kind, DROP_S, SLOTS};
+use crate::hub::{Hub, DROP_S, SLOTS};
+use crate::raw::Table;
 
 /// A starting table and a list of calls.
 #[derive(Clone, Debug)]
@@ -25,7 +27,9 @@ pub struct Pair {
 struct Trace {
     /// The calls that are left when those that may differ are struck out.
     left: Vec<Call>,
-    /// The answers to callers without the tag.
+    /// The calls by callers without the tag, numbered from 0.
+    watched: Vec<usize>,
+    /// The answers to them.
     answers: Vec<Answer>,
     /// All records in the order of the calls.
     records: Vec<u8>,
@@ -43,14 +47,16 @@ fn may_differ(hub: &Hub, call: &Call, tag: u8) -> bool {
 }
 
 fn trace(run: &Run, tag: u8) -> Trace {
-    let mut trace = Trace { left: vec![], answers: vec![], records: vec![], end: run.start.clone() };
-    for call in &run.calls {
+    let end = run.start.clone();
+    let mut trace = Trace { left: vec![], watched: vec![], answers: vec![], records: vec![], end };
+    for (index, call) in run.calls.iter().enumerate() {
         let (next, answer) = trace.end.call(call);
         if !may_differ(&trace.end, call, tag) {
             trace.left.push(call.clone());
         }
         trace.records.extend(answer.record);
         if !bears(&trace.end, call.caller, tag) {
+            trace.watched.push(index);
             trace.answers.push(answer);
         }
         trace.end = next;
@@ -100,11 +106,9 @@ pub fn check(pair: &Pair) -> Result<(), &'static str> {
     if ran_a.answers != ran_b.answers {
         return Err("an answer to a caller without the tag differs");
     }
-    for auditor in (0..=255).filter(|slot| !bears(&ran_a.end, *slot, tag)) {
-        let large = ran_a.records.len().max(ran_b.records.len());
-        let exact = ran_a.end.audit(auditor, &ran_a.records, &vec![0; large]).part.len();
-        for length in [0, exact, exact.saturating_sub(1), large] {
-            let lent = vec![0xa5; length];
+    for auditor in 0..=255 {
+        for length in lengths(&ran_a, &ran_b, tag, auditor) {
+            let lent = vec![LENT; length];
             let seen_a = ran_a.end.audit(auditor, &ran_a.records, &lent);
             let seen_b = ran_b.end.audit(auditor, &ran_b.records, &lent);
             if seen_a != seen_b {
@@ -113,6 +117,39 @@ pub fn check(pair: &Pair) -> Result<(), &'static str> {
         }
     }
     Ok(())
+}
+
+/// What the buffers of the audits hold.
+const LENT: u8 = 0xa5;
+
+/// The buffers that an auditor gets in both runs; none for one that bears the tag.
+fn lengths(ran_a: &Trace, ran_b: &Trace, tag: u8, auditor: u8) -> Vec<usize> {
+    if bears(&ran_a.end, auditor, tag) || bears(&ran_b.end, auditor, tag) {
+        return vec![];
+    }
+    let large = ran_a.records.len().max(ran_b.records.len());
+    let exact = ran_a.end.audit(auditor, &ran_a.records, &vec![0; large]).part.len();
+    vec![0, exact, exact.saturating_sub(1), large]
+}
+
+/// The script of each run, and the text that says which answers are compared: the tag, and
+/// for each script its calls by callers without the tag, numbered from 0.
+pub fn scripts(pair: &Pair) -> (String, String, String) {
+    let Pair { tag, a, b } = pair;
+    let (ran_a, ran_b) = (trace(a, *tag), trace(b, *tag));
+    let mut audits = String::new();
+    for auditor in (0..=SLOTS as u8).chain([255]) {
+        for length in lengths(&ran_a, &ran_b, *tag, auditor) {
+            audits.push_str(&format!("audit {auditor} run {length} {LENT:02x}\n"));
+        }
+    }
+    let script = |run: &Run| {
+        let calls: String = run.calls.iter().map(call_line).collect();
+        format!("{}{calls}dump\n{audits}", table_lines(&Table::of_hub(&run.start)))
+    };
+    let watched = |ran: &Trace| ran.watched.iter().map(|index| format!(" {index}")).collect::<String>();
+    let watch = format!("tag {tag}\na{}\nb{}\n", watched(&ran_a), watched(&ran_b));
+    (script(a), script(b), watch)
 }
 
 /// A random pair of runs that the claim speaks of.
@@ -135,7 +172,8 @@ pub fn random_pair(rng: &mut Rng) -> Pair {
         struck_calls(rng, &mut a, &mut now_a, &world.pool, tag);
         struck_calls(rng, &mut b, &mut now_b, &world.pool, tag);
         let length = rng.pick(&[0, 1, 5, 63, 64, 70]);
-        let both = call(rng, &now_a, &world.pool, length);
+        let usual = call(rng, &now_a, &world.pool, length);
+        let both = if rng.chance(20) { probe(rng, &now_a, tag).unwrap_or(usual) } else { usual };
         push(&mut a, &mut now_a, both.clone());
         push(&mut b, &mut now_b, both);
     }
@@ -159,11 +197,19 @@ fn hide_under(rng: &mut Rng, hub: &mut Hub, tag: u8) {
     }
 }
 
+/// A fetch from an entity that bears the tag, by a program without it.
+fn probe(rng: &mut Rng, now: &Hub, tag: u8) -> Option<Call> {
+    let (hidden, open): (Vec<u8>, Vec<u8>) = (0..SLOTS as u8).partition(|slot| bears(now, *slot, tag));
+    let callers: Vec<u8> = open.into_iter().filter(|slot| now.program(*slot).is_some()).collect();
+    let both_there = !hidden.is_empty() && !callers.is_empty();
+    both_there.then(|| Call::fetch(rng.pick(&callers), rng.pick(&hidden)))
+}
+
 /// Some calls of one run only, by programs that bear the tag at that moment.
 fn struck_calls(rng: &mut Rng, run: &mut Run, now: &mut Hub, pool: &[u8], tag: u8) {
     for _ in 0..rng.pick(&[0, 0, 1, 2, 4]) {
         let bearers: Vec<u8> = (0..SLOTS as u8)
-            .filter(|slot| now.entity(*slot).is_some_and(|e| e.kind == Kind::Program) && bears(now, *slot, tag))
+            .filter(|slot| now.program(*slot).is_some() && bears(now, *slot, tag))
             .collect();
         if bearers.is_empty() {
             return;

@@ -1,13 +1,16 @@
 #!/usr/bin/env python3
-"""Makes the stored cases anew from fixed seeds, with the model's answers.
+"""make.py [PROGRAMS]
 
-Needs the programs built: cargo build --release --offline.
+Makes the stored cases anew from fixed seeds, with the model's answers. PROGRAMS is
+the directory of the built programs, else where cargo build --release leaves them.
 """
 import os
 import subprocess
+import sys
 
 HERE = os.path.dirname(os.path.abspath(__file__))
-PROGRAMS = os.path.join(os.path.dirname(HERE), "target", "release")
+BUILT = os.path.join(os.path.dirname(HERE), "target", "release")
+PROGRAMS = sys.argv[1] if len(sys.argv) > 1 else BUILT
 
 TEXTS = [("rounds", 20, 120), ("damaged", 21, 401), ("mixed", 22, 19)]
 SCRIPTS = range(1, 49)

@@ -278,7 +278,46 @@ fn cases_meet_what_they_are_meant_for() {
 fn input_is_fixed_by_the_seed() {
     assert_eq!(round(&mut Rng::new(7)), round(&mut Rng::new(7)));
     assert_eq!(script(7, 3), script(7, 3));
-    assert!(hub::script::run(&script(7, 6)).is_ok());
+}
+
+#[test]
+fn scripts_run_and_stay_short() {
+    for seed in 0..100 {
+        let script = script(seed, 4);
+        assert!(hub::script::run(&script).is_ok());
+        assert!(script.len() < 60_000);
+        assert!(script.ends_with("dump\n"));
+    }
+}
+
+const PROGRAM: &str = "slot 3 2 0000000000000000 0000000000000000 0000000000000000 \
+    0000000000000000 0000000000000000 0000000000000000 0\n";
+
+/// The bytes that slot 3 is shown of `run` at the end of a script.
+fn shown_of_run(script: &str) -> usize {
+    let answers = hub::script::run(&format!("{script}audit 3 run 400 00\n")).expect("commands");
+    let part = answers.lines().last().and_then(|line| line.split(' ').nth(2)).expect("a part");
+    part.trim_matches('-').len() / 2
+}
+
+#[test]
+fn run_is_the_records_since_the_last_table() {
+    let calls = "put 3 01\nsend 4 5\nshow 3 0 00\n";
+    assert_eq!(shown_of_run(PROGRAM), 0);
+    assert_eq!(shown_of_run(&format!("{calls}{PROGRAM}")), 48);
+    assert_eq!(shown_of_run(&format!("{PROGRAM}{calls}load -\n{PROGRAM}")), 48);
+    assert_eq!(shown_of_run(&format!("{PROGRAM}{calls}audit 3 - 0 00\ndump\n")), 48);
+    assert_eq!(shown_of_run(&format!("{PROGRAM}{calls}table\n{PROGRAM}{calls}send 3 3\n")), 64);
+}
+
+#[test]
+fn a_dump_is_the_table() {
+    let dump = hub::script::run(&format!("{PROGRAM}put 3 0a0b\ndump\n")).expect("commands");
+    let dump = hub::hex::bytes(dump.lines().last().expect("a line").as_bytes()).expect("digits");
+    assert_eq!(dump.len(), 3_944);
+    assert_eq!(dump[3 * 57], 2);
+    assert_eq!(dump[3 * 57 + 49..4 * 57], 2u64.to_le_bytes());
+    assert_eq!(dump[32 * 57 + 3 * 64..][..3], [10, 11, 0]);
 }
 
 #[test]

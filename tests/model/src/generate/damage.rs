@@ -448,6 +448,10 @@ fn with_draft(rng: &mut Rng, change: impl Fn(&mut Rng, &mut Draft)) -> Vec<u8> {
     draft.text()
 }
 
+fn with_edits(rng: &mut Rng, edits: &[fn(&mut Rng, &mut Draft)]) -> Vec<u8> {
+    with_draft(rng, |rng, draft| edits.iter().for_each(|edit| edit(rng, draft)))
+}
+
 /// The first `count` lines of a small round.
 fn stopped(rng: &mut Rng, count: impl Fn(&Lines) -> usize) -> Vec<u8> {
     with_lines(rng, |_, lines| {
@@ -677,32 +681,16 @@ const WHOLE: &[(&str, Class, Make)] = &[
         format!("{}\n31 item 0 0 0 0 0 0 -\n0 item 0 0 0 0 0 0 -\n31 item 0 0 0 0 0 0 -\n\n{}\n\n{}\n",
             NAMES[0], NAMES[1], NAMES[2]).into_bytes()
     }),
-    ("twice-after-breaking", Class::Twice, |rng| with_draft(rng, |rng, d| {
-        breaking(rng, d);
-        twice(rng, d);
-    })),
-    ("twice-before-breaking", Class::Twice, |rng| with_draft(rng, |rng, d| {
-        twice(rng, d);
-        breaking(rng, d);
-    })),
+    ("twice-after-breaking", Class::Twice, |rng| with_edits(rng, &[breaking, twice])),
+    ("twice-before-breaking", Class::Twice, |rng| with_edits(rng, &[twice, breaking])),
     ("twice-and-breaking-in-one", Class::Twice, |rng| with_draft(rng, |rng, d| {
         d.push(GROUPS, "3");
         push_entities(rng, d, &["@ prog 1 2 0 0 0 0 -", "@ prog 2 1 0 0 0 0 -"]);
     })),
     // 15 before 16 and 17.
-    ("form-and-twice", Class::Form, |rng| with_draft(rng, |rng, d| {
-        twice(rng, d);
-        bad_call(rng, d);
-    })),
-    ("form-and-breaking", Class::Form, |rng| with_draft(rng, |rng, d| {
-        breaking(rng, d);
-        bad_call(rng, d);
-    })),
-    ("form-twice-and-breaking", Class::Form, |rng| with_draft(rng, |rng, d| {
-        breaking(rng, d);
-        twice(rng, d);
-        bad_call(rng, d);
-    })),
+    ("form-and-twice", Class::Form, |rng| with_edits(rng, &[twice, bad_call])),
+    ("form-and-breaking", Class::Form, |rng| with_edits(rng, &[breaking, bad_call])),
+    ("form-twice-and-breaking", Class::Form, |rng| with_edits(rng, &[breaking, twice, bad_call])),
     ("form-row-before-twice", Class::Form, |rng| with_draft(rng, |rng, d| {
         insert_anywhere(rng, d, ENTITIES, "@ prog 0 0 0 0 0 0 0");
         twice(rng, d);
