@@ -11,7 +11,7 @@ use rules::Kind;
 use rules::Outcome;
 use text::Tags;
 
-// What became of a line. Only a call has a record to be kept, and only `table` makes the kept records none.
+// What became of a line: it is no command, or it was done. A call leaves a record to be kept, and after `table` none are kept.
 enum Done {
     Bad,
     Quiet,
@@ -25,7 +25,7 @@ struct Step {
     entry: [u8; 16],
 }
 
-// Bytes: a read outside gives 0, a write outside does nothing, a front is as long as there are bytes.
+// Bytes. A read beyond the end gives 0, a write there does nothing, and a front longer than the whole is the whole.
 
 fn byte_at(s: &[u8], i: usize) -> u8 {
     if i < s.len() { s[i] } else { 0 }
@@ -57,17 +57,11 @@ fn front<'a>(s: &'a [u8], n: usize) -> &'a [u8] {
     s
 }
 
-fn fill(out: &mut [u8], b: u8) {
+fn fill(out: &mut [u8], n: usize, b: u8) {
     let mut i = 0;
-    while i < out.len() {
-        out[i] = b;
+    while i < n {
+        push(out, i, b);
         i += 1;
-    }
-}
-
-fn fill_front(out: &mut [u8], n: usize, b: u8) {
-    if n <= out.len() {
-        fill(&mut out[..n], b);
     }
 }
 
@@ -156,6 +150,7 @@ fn pair(a: u8, b: u8) -> usize {
     (h as usize) * 16 + (l as usize)
 }
 
+// A fill byte, F.
 fn fill_byte(s: &[u8]) -> usize {
     if s.len() != 2 {
         return none();
@@ -188,38 +183,30 @@ fn hex_into(s: &[u8], out: &mut [u8]) -> usize {
     at
 }
 
-fn is_set(s: &[u8]) -> bool {
-    let set = text::hex_set(s);
+fn is_set(row: &[u8], name: &[u8]) -> bool {
+    let set = text::hex_set(word(row, name));
     match set {
         Tags::Set(l) => true,
         Tags::Bad => false,
     }
 }
 
-fn set_of(s: &[u8]) -> Label {
-    let set = text::hex_set(s);
+fn set_at(row: &[u8], name: &[u8]) -> Label {
+    let set = text::hex_set(word(row, name));
     match set {
         Tags::Set(l) => l,
         Tags::Bad => label::empty(),
     }
 }
 
-fn is_set_at(row: &[u8], name: &[u8]) -> bool {
-    is_set(word(row, name))
-}
-
-fn set_at(row: &[u8], name: &[u8]) -> Label {
-    set_of(word(row, name))
-}
-
 // The six sets of a slot, and six of the eight of the groups.
 fn six_sets(row: &[u8]) -> bool {
-    is_set_at(row, b"d")
-        & is_set_at(row, b"e")
-        & is_set_at(row, b"f")
-        & is_set_at(row, b"g")
-        & is_set_at(row, b"h")
-        & is_set_at(row, b"i")
+    is_set(row, b"d")
+        & is_set(row, b"e")
+        & is_set(row, b"f")
+        & is_set(row, b"g")
+        & is_set(row, b"h")
+        & is_set(row, b"i")
 }
 
 // The table as bytes.
@@ -367,10 +354,6 @@ fn print_dump(table: Table) {
     io::write_all(STDOUT_FILENO, b"\n");
 }
 
-fn print_number(n: u8) {
-    io::print_decimal(STDOUT_FILENO, wide(n));
-}
-
 // The part, the lent buffer that it is the front of, and the digest.
 fn print_rest(lent: &[u8], part: usize, table: Table) {
     print_field(front(lent, part));
@@ -378,35 +361,11 @@ fn print_rest(lent: &[u8], part: usize, table: Table) {
     print_digest(table);
 }
 
-// Steps.
-
-fn no_entry() -> [u8; 16] {
-    [0u8; 16]
-}
-
-fn bad(table: Table) -> Step {
-    let entry = no_entry();
+// What a line that is no call comes to.
+fn no_call(done: Done, table: Table) -> Step {
+    let entry = [0u8; 16];
     Step {
-        done: Done::Bad,
-        table: table,
-        entry: entry,
-    }
-}
-
-fn quiet(table: Table) -> Step {
-    let entry = no_entry();
-    Step {
-        done: Done::Quiet,
-        table: table,
-        entry: entry,
-    }
-}
-
-fn fresh() -> Step {
-    let entry = no_entry();
-    let table = Table::empty();
-    Step {
-        done: Done::Fresh,
+        done: done,
         table: table,
         entry: entry,
     }
@@ -418,7 +377,7 @@ fn called(r: Reply, lent: &[u8], part: usize) -> Step {
     let answer = r.answer;
     let outcome = answer.outcome;
     let entry = answer.entry;
-    print_number(monitor::number_of(outcome));
+    io::print_decimal(STDOUT_FILENO, wide(monitor::number_of(outcome)));
     print_field(&entry);
     print_rest(lent, part, table);
     Step {
@@ -432,7 +391,7 @@ fn replied(r: Reply) -> Step {
     called(r, b"", 0)
 }
 
-// Commands that write the table.
+// Commands that write the table. Each tests its fields, and then takes them.
 
 fn kind_of(n: usize) -> Kind {
     if n == 1 {
@@ -469,10 +428,13 @@ fn slot(table: Table, row: &[u8]) -> Step {
     let n = number_at(row, b"b");
     let ok = (n < 32) & (number_at(row, b"c") < 3) & (number_at(row, b"j") < 256);
     if !(ok & six_sets(row)) {
-        return bad(table);
+        return no_call(Done::Bad, table);
     }
     let block = table.block(low(n));
-    quiet(table.with_slot(low(n), slot_entity(row), block))
+    no_call(
+        Done::Quiet,
+        table.with_slot(low(n), slot_entity(row), block),
+    )
 }
 
 fn with_bytes(content: [u8; 2048], at: usize, src: &[u8]) -> [u8; 2048] {
@@ -485,16 +447,16 @@ fn content_in(table: Table, row: &[u8], room: &mut [u8]) -> Step {
     let at = number_at(row, b"b");
     let n = hex_into(word(row, b"c"), room);
     if 2048 < at {
-        return bad(table);
+        return no_call(Done::Bad, table);
     }
     if 2048 - at < n {
-        return bad(table);
+        return no_call(Done::Bad, table);
     }
     let was = table.content;
     let now = with_bytes(was, at, front(room, n));
     let mut t = table;
     t.content = now;
-    quiet(t)
+    no_call(Done::Quiet, t)
 }
 
 fn content(table: Table, row: &[u8]) -> Step {
@@ -517,15 +479,15 @@ fn eight_sets(row: &[u8]) -> [Label; 8] {
 
 fn groups(table: Table, row: &[u8]) -> Step {
     let n = number_at(row, b"b");
-    let ok = (n < 256) & is_set_at(row, b"c") & is_set_at(row, b"j");
+    let ok = (n < 256) & is_set(row, b"c") & is_set(row, b"j");
     if !(ok & six_sets(row)) {
-        return bad(table);
+        return no_call(Done::Bad, table);
     }
     let sets = eight_sets(row);
     let mut t = table;
     t.groups = sets;
     t.count = n;
-    quiet(t)
+    no_call(Done::Quiet, t)
 }
 
 // Commands that answer.
@@ -533,7 +495,7 @@ fn groups(table: Table, row: &[u8]) -> Step {
 fn put_in(table: Table, row: &[u8], room: &mut [u8]) -> Step {
     let n = hex_into(word(row, b"c"), room);
     if room.len() < n {
-        return bad(table);
+        return no_call(Done::Bad, table);
     }
     replied(table.put(low_at(row, b"b"), front(room, n)))
 }
@@ -543,6 +505,7 @@ fn put(table: Table, row: &[u8]) -> Step {
     put_in(table, row, &mut room)
 }
 
+// A show into the front of a buffer.
 fn show_front(table: Table, caller: u8, room: &mut [u8], n: usize) -> Reply {
     if n <= room.len() {
         return table.show_into(caller, &mut room[..n]);
@@ -554,12 +517,12 @@ fn show_in(table: Table, row: &[u8], room: &mut [u8]) -> Step {
     let n = number_at(row, b"c");
     let b = fill_byte(word(row, b"d"));
     if 255 < b {
-        return bad(table);
+        return no_call(Done::Bad, table);
     }
     if room.len() < n {
-        return bad(table);
+        return no_call(Done::Bad, table);
     }
-    fill_front(room, n, low(b));
+    fill(room, n, low(b));
     let r = show_front(table, low_at(row, b"b"), room, n);
     let answer = r.answer;
     let entry = answer.entry;
@@ -571,6 +534,7 @@ fn show(table: Table, row: &[u8]) -> Step {
     show_in(table, row, &mut room)
 }
 
+// An audit into the front of a buffer.
 fn audit_front(table: Table, caller: u8, list: &[u8], room: &mut [u8], n: usize) -> Outcome {
     if n <= room.len() {
         return table.audit_into(caller, list, &mut room[..n]);
@@ -586,13 +550,13 @@ fn audit_filled(
     n: usize,
     b: u8,
 ) -> Outcome {
-    fill_front(room, n, b);
+    fill(room, n, b);
     audit_front(table, caller, list, room, n)
 }
 
-// The part is what the two buffers have in common, since they differed at every byte before.
+// The part is what the audit wrote to both buffers, which differed at every byte before.
 fn print_audit(v: Outcome, one: &[u8], two: &[u8], table: Table) {
-    print_number(monitor::number_of(v));
+    io::print_decimal(STDOUT_FILENO, wide(monitor::number_of(v)));
     io::write_all(STDOUT_FILENO, b" -");
     print_rest(one, common(one, two), table);
 }
@@ -602,15 +566,15 @@ fn audit_in(table: Table, row: &[u8], list: &[u8], one: &mut [u8], two: &mut [u8
     let n = number_at(row, b"d");
     let b = fill_byte(word(row, b"e"));
     if 255 < b {
-        return bad(table);
+        return no_call(Done::Bad, table);
     }
     if one.len() < n {
-        return bad(table);
+        return no_call(Done::Bad, table);
     }
     let v = audit_filled(table, caller, list, one, n, low(b));
     let w = audit_filled(table, caller, list, two, n, low(b) ^ 255);
     print_audit(v, front(one, n), front(two, n), table);
-    quiet(table)
+    no_call(Done::Quiet, table)
 }
 
 fn audit_list(table: Table, row: &[u8], list: &[u8]) -> Step {
@@ -622,7 +586,7 @@ fn audit_list(table: Table, row: &[u8], list: &[u8]) -> Step {
 fn audit_hex(table: Table, row: &[u8], room: &mut [u8]) -> Step {
     let n = hex_into(word(row, b"c"), room);
     if room.len() < n {
-        return bad(table);
+        return no_call(Done::Bad, table);
     }
     audit_list(table, row, front(room, n))
 }
@@ -636,7 +600,7 @@ fn audit(table: Table, row: &[u8], run: &[u8]) -> Step {
 }
 
 fn print_load(number: u8, line: usize, table: Table) {
-    print_number(number);
+    io::print_decimal(STDOUT_FILENO, wide(number));
     io::write_all(STDOUT_FILENO, b" line");
     io::print_decimal(STDOUT_FILENO, line as u64);
     print_rest(b"", 0, table);
@@ -645,7 +609,7 @@ fn print_load(number: u8, line: usize, table: Table) {
 fn load_in(table: Table, row: &[u8], room: &mut [u8]) -> Step {
     let n = hex_into(word(row, b"b"), room);
     if room.len() < n {
-        return bad(table);
+        return no_call(Done::Bad, table);
     }
     let loaded = load::load(front(room, n));
     let next = loaded.table;
@@ -654,7 +618,7 @@ fn load_in(table: Table, row: &[u8], room: &mut [u8]) -> Step {
         Verdict::Accepted => print_load(0, 0, next),
         Verdict::Refused(number, line) => print_load(number, line, next),
     }
-    quiet(next)
+    no_call(Done::Quiet, next)
 }
 
 fn load_text(table: Table, row: &[u8]) -> Step {
@@ -689,12 +653,12 @@ fn plain_call(table: Table, row: &[u8]) -> Step {
     if is(row, b"hand", 5) {
         return replied(table.hand(i, j, k, l));
     }
-    bad(table)
+    no_call(Done::Bad, table)
 }
 
 fn call(table: Table, row: &[u8]) -> Step {
     if !is_low(row, b"b", 2) {
-        return bad(table);
+        return no_call(Done::Bad, table);
     }
     if is(row, b"put", 3) {
         return put(table, row);
@@ -705,12 +669,7 @@ fn call(table: Table, row: &[u8]) -> Step {
     if is_low(row, b"c", 3) & is_low(row, b"d", 4) & is_low(row, b"e", 5) {
         return plain_call(table, row);
     }
-    bad(table)
-}
-
-fn dump(table: Table) -> Step {
-    print_dump(table);
-    quiet(table)
+    no_call(Done::Bad, table)
 }
 
 fn skipped(row: &[u8]) -> bool {
@@ -719,10 +678,10 @@ fn skipped(row: &[u8]) -> bool {
 
 fn command(table: Table, row: &[u8], run: &[u8]) -> Step {
     if skipped(row) {
-        return quiet(table);
+        return no_call(Done::Quiet, table);
     }
     if is(row, b"table", 1) {
-        return fresh();
+        return no_call(Done::Fresh, Table::empty());
     }
     if is(row, b"slot", 10) {
         return slot(table, row);
@@ -737,15 +696,14 @@ fn command(table: Table, row: &[u8], run: &[u8]) -> Step {
         return load_text(table, row);
     }
     if is(row, b"dump", 1) {
-        return dump(table);
+        print_dump(table);
+        return no_call(Done::Quiet, table);
     }
     if is(row, b"audit", 5) & is_low(row, b"b", 2) {
         return audit(table, row, run);
     }
     call(table, row)
 }
-
-// The run.
 
 fn is_bad(done: Done) -> bool {
     match done {

@@ -1,5 +1,5 @@
 use borrow.Author.Needs.{needs}
-use lib.ListN.{length, length-set}
+use lib.ListN.{length}
 use Prim.Native.Nat.{_-_}
 use mathlib.Core.Path.{_≡_}
 use Rattle.hubscript.proofs.fill.Statement.{statement}
@@ -8,16 +8,13 @@ use Rattle.hubscript.proofs.fill.Tie as tie
 -- `hubscript::fill` meets its contract. Assumes nothing.
 
 abbrev Inv-loop : tie.InvT-loop
-Inv-loop out₀ b i₀ out i = length out ≡ length out₀
+Inv-loop out₀ n b i₀ out i = length out ≡ length out₀
 
 abbrev μ-loop : tie.MeasureT-loop
-μ-loop out₀ b i₀ out i = length out₀ - i
+μ-loop out₀ n b i₀ out i = n - i
 
 loop-holds : tie.Need-loop-holds Inv-loop μ-loop
 loop-holds c = search needs
-
-slice-write-out : tie.Need-slice-write-out Inv-loop μ-loop
-slice-write-out c = search needs
 
 add-i : tie.Need-add-i Inv-loop μ-loop
 add-i c = search needs
@@ -26,7 +23,7 @@ loop-less : tie.Need-loop-less Inv-loop μ-loop
 loop-less c = search needs
 
 loop-again : tie.Need-loop-again Inv-loop μ-loop
-loop-again c = simp length-set (c .before .loop .inv)
+loop-again c = search needs
 
 same-length : tie.Need-same-length Inv-loop μ-loop
 same-length c = search needs
@@ -36,4 +33,4 @@ returns c = search needs
 
 pub fill-spec : {M : Type 1} → statement M
 fill-spec =
-    tie.close (tie.spec Inv-loop μ-loop loop-holds slice-write-out add-i loop-less loop-again same-length returns)
+    tie.close (tie.spec Inv-loop μ-loop loop-holds (λ _ _. tt) add-i loop-less loop-again same-length returns)
