@@ -65,18 +65,6 @@ fn fill(out: &mut [u8], n: usize, b: u8) {
     }
 }
 
-// How many bytes at the front of the two are the same.
-fn common(a: &[u8], b: &[u8]) -> usize {
-    let mut i = 0;
-    while i < a.len() {
-        if a[i] != byte_at(b, i) {
-            return i;
-        }
-        i += 1;
-    }
-    i
-}
-
 // Fields. A number above 65,536, and what is no number or no HEX, is `none`.
 
 fn none() -> usize {
@@ -542,45 +530,32 @@ fn audit_front(table: Table, caller: u8, list: &[u8], room: &mut [u8], n: usize)
     table.audit_into(caller, list, room)
 }
 
-fn audit_filled(
-    table: Table,
-    caller: u8,
-    list: &[u8],
-    room: &mut [u8],
-    n: usize,
-    b: u8,
-) -> Outcome {
-    fill(room, n, b);
-    audit_front(table, caller, list, room, n)
-}
-
-// The part is what the audit wrote to both buffers, which differed at every byte before.
-fn print_audit(v: Outcome, one: &[u8], two: &[u8], table: Table) {
+fn print_audit(v: Outcome, lent: &[u8], part: usize, table: Table) {
     io::print_decimal(STDOUT_FILENO, wide(monitor::number_of(v)));
     io::write_all(STDOUT_FILENO, b" -");
-    print_rest(one, common(one, two), table);
+    print_rest(lent, part, table);
 }
 
-fn audit_in(table: Table, row: &[u8], list: &[u8], one: &mut [u8], two: &mut [u8]) -> Step {
+fn audit_in(table: Table, row: &[u8], list: &[u8], room: &mut [u8]) -> Step {
     let caller = low_at(row, b"b");
     let n = number_at(row, b"d");
     let b = fill_byte(word(row, b"e"));
     if 255 < b {
         return no_call(Done::Bad, table);
     }
-    if one.len() < n {
+    if room.len() < n {
         return no_call(Done::Bad, table);
     }
-    let v = audit_filled(table, caller, list, one, n, low(b));
-    let w = audit_filled(table, caller, list, two, n, low(b) ^ 255);
-    print_audit(v, front(one, n), front(two, n), table);
+    fill(room, n, low(b));
+    let part = table.audit_len(caller, list, n);
+    let v = audit_front(table, caller, list, room, n);
+    print_audit(v, front(room, n), part, table);
     no_call(Done::Quiet, table)
 }
 
 fn audit_list(table: Table, row: &[u8], list: &[u8]) -> Step {
-    let mut one = io::large_buffer();
-    let mut two = io::large_buffer();
-    audit_in(table, row, list, &mut one, &mut two)
+    let mut room = io::large_buffer();
+    audit_in(table, row, list, &mut room)
 }
 
 fn audit_hex(table: Table, row: &[u8], room: &mut [u8]) -> Step {
