@@ -65,7 +65,7 @@ fn fill(out: &mut [u8], n: usize, b: u8) {
     }
 }
 
-// Fields. A number above 65,536, and what is no number or no HEX, is `none`.
+// Fields. `none` stands for a number above 65,536 and for what is no number.
 
 fn none() -> usize {
     65537
@@ -125,47 +125,40 @@ fn is_low(row: &[u8], name: &[u8], at: usize) -> bool {
     (number_at(row, name) < 256) | (text::count(row) < at)
 }
 
-// The byte of two digits.
-fn pair(a: u8, b: u8) -> usize {
-    let h = text::digit(a);
-    let l = text::digit(b);
-    if 15 < h {
-        return none();
-    }
-    if 15 < l {
-        return none();
-    }
-    (h as usize) * 16 + (l as usize)
+fn pair(a: u8, b: u8) -> u8 {
+    text::digit(a) % 16 * 16 + text::digit(b) % 16
 }
 
-// A fill byte, F.
-fn fill_byte(s: &[u8]) -> usize {
-    if s.len() != 2 {
-        return none();
+fn is_hex(s: &[u8]) -> bool {
+    let mut i = 0;
+    while i < s.len() {
+        if 15 < text::digit(s[i]) {
+            return false;
+        }
+        i += 1;
     }
+    s.len() % 2 == 0
+}
+
+fn is_data(s: &[u8]) -> bool {
+    text::same(s, b"-") | (is_hex(s) & (0 < s.len()))
+}
+
+fn is_fill(s: &[u8]) -> bool {
+    is_hex(s) & (s.len() == 2)
+}
+
+fn fill_byte(s: &[u8]) -> u8 {
     pair(byte_at(s, 0), byte_at(s, 1))
 }
 
-// The bytes of HEX go to the front of a buffer; answers how many there are.
+// The bytes of HEX go to the front of a buffer; answers how many there are, none for `-`.
 fn hex_into(s: &[u8], out: &mut [u8]) -> usize {
-    if text::same(s, b"-") {
-        return 0;
-    }
     let n = s.len() / 2;
-    if n == 0 {
-        return none();
-    }
-    if s.len() % 2 != 0 {
-        return none();
-    }
     let mut at: usize = 0;
     let mut i = 0;
     while i < n {
-        let b = pair(byte_at(s, i * 2), byte_at(s, i * 2 + 1));
-        if 255 < b {
-            return none();
-        }
-        at = push(out, at, low(b));
+        at = push(out, at, pair(byte_at(s, i * 2), byte_at(s, i * 2 + 1)));
         i += 1;
     }
     at
@@ -359,15 +352,15 @@ fn no_call(done: Done, table: Table) -> Step {
     }
 }
 
-// Prints the answer to a call.
-fn called(r: Reply, lent: &[u8], part: usize) -> Step {
+// Prints the answer to a call. The part is as long as the record says, and empty where no buffer is lent.
+fn called(r: Reply, lent: &[u8]) -> Step {
     let table = r.table;
     let answer = r.answer;
     let outcome = answer.outcome;
     let entry = answer.entry;
     io::print_decimal(STDOUT_FILENO, wide(monitor::number_of(outcome)));
     print_field(&entry);
-    print_rest(lent, part, table);
+    print_rest(lent, entry[4] as usize, table);
     Step {
         done: Done::Called,
         table: table,
@@ -376,7 +369,7 @@ fn called(r: Reply, lent: &[u8], part: usize) -> Step {
 }
 
 fn replied(r: Reply) -> Step {
-    called(r, b"", 0)
+    called(r, b"")
 }
 
 // Commands that write the table. Each tests its fields, and then takes them.
@@ -431,25 +424,19 @@ fn with_bytes(content: [u8; 2048], at: usize, src: &[u8]) -> [u8; 2048] {
     out
 }
 
-fn content_in(table: Table, row: &[u8], room: &mut [u8]) -> Step {
+fn content(table: Table, row: &[u8], data: &[u8]) -> Step {
     let at = number_at(row, b"b");
-    let n = hex_into(word(row, b"c"), room);
     if 2048 < at {
         return no_call(Done::Bad, table);
     }
-    if 2048 - at < n {
+    if 2048 - at < data.len() {
         return no_call(Done::Bad, table);
     }
     let was = table.content;
-    let now = with_bytes(was, at, front(room, n));
+    let now = with_bytes(was, at, data);
     let mut t = table;
     t.content = now;
     no_call(Done::Quiet, t)
-}
-
-fn content(table: Table, row: &[u8]) -> Step {
-    let mut room = io::large_buffer();
-    content_in(table, row, &mut room)
 }
 
 fn eight_sets(row: &[u8]) -> [Label; 8] {
@@ -480,19 +467,6 @@ fn groups(table: Table, row: &[u8]) -> Step {
 
 // Commands that answer.
 
-fn put_in(table: Table, row: &[u8], room: &mut [u8]) -> Step {
-    let n = hex_into(word(row, b"c"), room);
-    if room.len() < n {
-        return no_call(Done::Bad, table);
-    }
-    replied(table.put(low_at(row, b"b"), front(room, n)))
-}
-
-fn put(table: Table, row: &[u8]) -> Step {
-    let mut room = io::large_buffer();
-    put_in(table, row, &mut room)
-}
-
 // A show into the front of a buffer.
 fn show_front(table: Table, caller: u8, room: &mut [u8], n: usize) -> Reply {
     if n <= room.len() {
@@ -501,25 +475,20 @@ fn show_front(table: Table, caller: u8, room: &mut [u8], n: usize) -> Reply {
     table.show_into(caller, room)
 }
 
-fn show_in(table: Table, row: &[u8], room: &mut [u8]) -> Step {
-    let n = number_at(row, b"c");
-    let b = fill_byte(word(row, b"d"));
-    if 255 < b {
-        return no_call(Done::Bad, table);
-    }
-    if room.len() < n {
-        return no_call(Done::Bad, table);
-    }
-    fill(room, n, low(b));
-    let r = show_front(table, low_at(row, b"b"), room, n);
-    let answer = r.answer;
-    let entry = answer.entry;
-    called(r, front(room, n), entry[4] as usize)
+fn show_filled(table: Table, caller: u8, n: usize, b: u8) -> Step {
+    let mut room = io::large_buffer();
+    fill(&mut room, n, b);
+    let r = show_front(table, caller, &mut room, n);
+    called(r, front(&room, n))
 }
 
 fn show(table: Table, row: &[u8]) -> Step {
-    let mut room = io::large_buffer();
-    show_in(table, row, &mut room)
+    let n = number_at(row, b"c");
+    let f = word(row, b"d");
+    if is_low(row, b"b", 2) & (n < none()) & is_fill(f) {
+        return show_filled(table, low_at(row, b"b"), n, fill_byte(f));
+    }
+    no_call(Done::Bad, table)
 }
 
 // An audit into the front of a buffer.
@@ -536,42 +505,22 @@ fn print_audit(v: Outcome, lent: &[u8], part: usize, table: Table) {
     print_rest(lent, part, table);
 }
 
-fn audit_in(table: Table, row: &[u8], list: &[u8], room: &mut [u8]) -> Step {
-    let caller = low_at(row, b"b");
-    let n = number_at(row, b"d");
-    let b = fill_byte(word(row, b"e"));
-    if 255 < b {
-        return no_call(Done::Bad, table);
-    }
-    if room.len() < n {
-        return no_call(Done::Bad, table);
-    }
-    fill(room, n, low(b));
+fn audit_filled(table: Table, caller: u8, list: &[u8], n: usize, b: u8) {
+    let mut room = io::large_buffer();
+    fill(&mut room, n, b);
     let part = table.audit_len(caller, list, n);
-    let v = audit_front(table, caller, list, room, n);
-    print_audit(v, front(room, n), part, table);
-    no_call(Done::Quiet, table)
+    let v = audit_front(table, caller, list, &mut room, n);
+    print_audit(v, front(&room, n), part, table);
 }
 
-fn audit_list(table: Table, row: &[u8], list: &[u8]) -> Step {
-    let mut room = io::large_buffer();
-    audit_in(table, row, list, &mut room)
-}
-
-fn audit_hex(table: Table, row: &[u8], room: &mut [u8]) -> Step {
-    let n = hex_into(word(row, b"c"), room);
-    if room.len() < n {
-        return no_call(Done::Bad, table);
+fn audit(table: Table, row: &[u8], list: &[u8]) -> Step {
+    let n = number_at(row, b"d");
+    let f = word(row, b"e");
+    if is_low(row, b"b", 2) & (n < none()) & is_fill(f) {
+        audit_filled(table, low_at(row, b"b"), list, n, fill_byte(f));
+        return no_call(Done::Quiet, table);
     }
-    audit_list(table, row, front(room, n))
-}
-
-fn audit(table: Table, row: &[u8], run: &[u8]) -> Step {
-    if text::same(word(row, b"c"), b"run") {
-        return audit_list(table, row, run);
-    }
-    let mut room = io::large_buffer();
-    audit_hex(table, row, &mut room)
+    no_call(Done::Bad, table)
 }
 
 fn print_load(number: u8, line: usize, table: Table) {
@@ -581,38 +530,70 @@ fn print_load(number: u8, line: usize, table: Table) {
     print_rest(b"", 0, table);
 }
 
-fn load_in(table: Table, row: &[u8], room: &mut [u8]) -> Step {
-    let n = hex_into(word(row, b"b"), room);
-    if room.len() < n {
-        return no_call(Done::Bad, table);
-    }
-    let loaded = load::load(front(room, n));
-    let next = loaded.table;
+fn load_text(data: &[u8]) -> Step {
+    let loaded = load::load(data);
+    let table = loaded.table;
     let verdict = loaded.verdict;
     match verdict {
-        Verdict::Accepted => print_load(0, 0, next),
-        Verdict::Refused(number, line) => print_load(number, line, next),
+        Verdict::Accepted => print_load(0, 0, table),
+        Verdict::Refused(number, line) => print_load(number, line, table),
     }
-    no_call(Done::Quiet, next)
+    no_call(Done::Quiet, table)
 }
 
-fn load_text(table: Table, row: &[u8]) -> Step {
-    let mut room = io::large_buffer();
-    load_in(table, row, &mut room)
+fn has_data(row: &[u8]) -> bool {
+    is(row, b"load", 2) | is(row, b"bytes", 3) | is(row, b"audit", 5) | is(row, b"put", 3)
 }
 
-// The seven calls whose fields are all numbers.
-fn plain_call(table: Table, row: &[u8]) -> Step {
-    let i = low_at(row, b"b");
-    let j = low_at(row, b"c");
-    let k = low_at(row, b"d");
-    let l = low_at(row, b"e");
+// The commands that have HEX, with its bytes.
+fn given(table: Table, row: &[u8], data: &[u8]) -> Step {
+    if is(row, b"load", 2) {
+        return load_text(data);
+    }
+    if is(row, b"bytes", 3) {
+        return content(table, row, data);
+    }
+    if is(row, b"audit", 5) {
+        return audit(table, row, data);
+    }
+    if is(row, b"put", 3) & is_low(row, b"b", 2) {
+        return replied(table.put(low_at(row, b"b"), data));
+    }
+    no_call(Done::Bad, table)
+}
+
+fn data_word<'a>(row: &'a [u8]) -> &'a [u8] {
+    if text::count(row) == 2 {
+        return word(row, b"b");
+    }
+    word(row, b"c")
+}
+
+fn with_data(table: Table, row: &[u8]) -> Step {
+    let w = data_word(row);
+    if is_data(w) {
+        let mut room = io::large_buffer();
+        let n = hex_into(w, &mut room);
+        return given(table, row, front(&room, n));
+    }
+    no_call(Done::Bad, table)
+}
+
+// The calls with one number after the caller, and those with two.
+fn call_of_three(table: Table, row: &[u8], i: u8, j: u8) -> Step {
     if is(row, b"send", 3) {
         return replied(table.send(i, j));
     }
     if is(row, b"fetch", 3) {
         return replied(table.fetch(i, j));
     }
+    if is(row, b"release", 3) {
+        return replied(table.release(i, j));
+    }
+    no_call(Done::Bad, table)
+}
+
+fn call_of_four(table: Table, row: &[u8], i: u8, j: u8, k: u8) -> Step {
     if is(row, b"add", 4) {
         return replied(table.add_tag(i, j, k));
     }
@@ -622,33 +603,49 @@ fn plain_call(table: Table, row: &[u8]) -> Step {
     if is(row, b"create", 4) {
         return replied(table.create(i, j, k));
     }
-    if is(row, b"release", 3) {
-        return replied(table.release(i, j));
-    }
-    if is(row, b"hand", 5) {
-        return replied(table.hand(i, j, k, l));
-    }
     no_call(Done::Bad, table)
 }
 
+fn lows(row: &[u8]) -> bool {
+    is_low(row, b"b", 2) & is_low(row, b"c", 3) & is_low(row, b"d", 4) & is_low(row, b"e", 5)
+}
+
+// The calls whose fields are all numbers.
 fn call(table: Table, row: &[u8]) -> Step {
-    if !is_low(row, b"b", 2) {
-        return no_call(Done::Bad, table);
+    let i = low_at(row, b"b");
+    let j = low_at(row, b"c");
+    let k = low_at(row, b"d");
+    let words = text::count(row);
+    if words == 3 {
+        return call_of_three(table, row, i, j);
     }
-    if is(row, b"put", 3) {
-        return put(table, row);
+    if words == 4 {
+        return call_of_four(table, row, i, j, k);
     }
-    if is(row, b"show", 4) {
-        return show(table, row);
-    }
-    if is_low(row, b"c", 3) & is_low(row, b"d", 4) & is_low(row, b"e", 5) {
-        return plain_call(table, row);
+    if is(row, b"hand", 5) {
+        return replied(table.hand(i, j, k, low_at(row, b"e")));
     }
     no_call(Done::Bad, table)
 }
 
 fn skipped(row: &[u8]) -> bool {
     (row.len() == 0) | (byte_at(row, 0) == 35)
+}
+
+fn answered(table: Table, row: &[u8], run: &[u8]) -> Step {
+    if is(row, b"show", 4) {
+        return show(table, row);
+    }
+    if is(row, b"audit", 5) & text::same(word(row, b"c"), b"run") {
+        return audit(table, row, run);
+    }
+    if has_data(row) {
+        return with_data(table, row);
+    }
+    if lows(row) {
+        return call(table, row);
+    }
+    no_call(Done::Bad, table)
 }
 
 fn command(table: Table, row: &[u8], run: &[u8]) -> Step {
@@ -658,26 +655,17 @@ fn command(table: Table, row: &[u8], run: &[u8]) -> Step {
     if is(row, b"table", 1) {
         return no_call(Done::Fresh, Table::empty());
     }
-    if is(row, b"slot", 10) {
-        return slot(table, row);
-    }
-    if is(row, b"bytes", 3) {
-        return content(table, row);
-    }
-    if is(row, b"groups", 10) {
-        return groups(table, row);
-    }
-    if is(row, b"load", 2) {
-        return load_text(table, row);
-    }
     if is(row, b"dump", 1) {
         print_dump(table);
         return no_call(Done::Quiet, table);
     }
-    if is(row, b"audit", 5) & is_low(row, b"b", 2) {
-        return audit(table, row, run);
+    if is(row, b"slot", 10) {
+        return slot(table, row);
     }
-    call(table, row)
+    if is(row, b"groups", 10) {
+        return groups(table, row);
+    }
+    answered(table, row, run)
 }
 
 fn is_bad(done: Done) -> bool {

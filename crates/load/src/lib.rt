@@ -247,7 +247,7 @@ fn groups_at(text: &[u8]) -> Place
     past_empty(text, entities_at())
 }
 
-fn calls_from(text: &[u8]) -> Place
+fn calls_place(text: &[u8]) -> Place
     ensures { λ r. ⌜ (r ≡ callsAt (now (text .entry))) × (r .at ≤ length (now (text .entry))) × (r .line ≤ r .at + 1) ⌝ }
 {
     past_empty(text, groups_at(text))
@@ -265,7 +265,7 @@ fn bad_line(text: &[u8]) -> usize
     if groups != 0 {
         return groups;
     }
-    call_block(text, calls_from(text))
+    call_block(text, calls_place(text))
 }
 
 // The entities of the rows at a place, put into a table one after the other.
@@ -454,7 +454,7 @@ pub fn load(text: &[u8]) -> Loaded
 pub fn calls_at(text: &[u8]) -> usize
     ensures { λ r. ⌜ r ≡ callsAt (now (text .entry)) .at ⌝ }
 {
-    let p = calls_from(text);
+    let p = calls_place(text);
     p.at
 }
 

@@ -1,5 +1,5 @@
--- What a lent buffer holds once the borrow of it is over, for a contract whose result keeps the borrow: the last list under
--- the reference's ghost name. A contract says the same of a `&mut [u8]` that no result keeps by `now (out .exit)`.
+-- What a lent buffer holds once the borrow of it is over, for a contract whose result keeps the borrow. Of a `&mut [u8]`
+-- that no result keeps, a contract says the same by `now (out .exit)`.
 -- Assumes nothing.
 use Prim.Native.Nat.{ℕ}
 use mathlib.Core.List.{List}

@@ -12,7 +12,7 @@ use lib.Seq.{drop-cons, sets, sets-eq, getD-set-same, drop-set-lt, take-all}
 use lib.Dec.{eqb, leb}
 use borrow.Author.Tests.{eq-eqb, ne-eqb, le-leb, lt-ltb, le-ltb}
 use mathlib.Core.Bool.{Bool, true, false, cond}
-use Rattle.print.specs.Lines.{digitText, hexText, dataText, callLine, printed, printedLength, decimalOnto, decimalText, refusedLine, noLine, short, recordLine, refusedBy}
+use Rattle.print.specs.Lines.{digitText, hexText, dataText, callLine, printed, printedLength, decimalOnto, decimalText, refusedLine, noLine, short, recordLine, refusedText, refusedAudit}
 
 pub hex-end : (out src : List ℕ) (k i : ℕ) → length src ≤ i → sets out k (hexText (drop i src)) ≡ out
 unfolding hexText
@@ -158,9 +158,6 @@ bytes-step out src k i h = rw (drop-cons src i 0 h, add-one i, add-one k)
 pub digits-part : (bytes : List ℕ) (from : ℕ) → length bytes ≡ 20 → take (20 - from) (drop from bytes) ≡ drop from bytes
 digits-part bytes from h = take-all (20 - from) (drop from bytes) (omega (arith, length-drop from bytes))
 
-abbrev pub refusedText : List ℕ
-refusedText = 114 ∷ 101 ∷ 102 ∷ 117 ∷ 115 ∷ 101 ∷ 100 ∷ 32 ∷ []
-
 abbrev lineText : List ℕ
 lineText = 32 ∷ 108 ∷ 105 ∷ 110 ∷ 101 ∷ 32 ∷ []
 
@@ -200,12 +197,12 @@ module _ (entry : List ℕ) (e : length entry ≡ 16) where
       ap (λ (i : ℕ). sets (sets out 0 (hexText entry)) i (10 ∷ [])) k ∙ sym (sets-append out 0 (hexText entry) (10 ∷ []))
 
 module _ (n a b : ℕ) (ea : a ≡ 0 + 8) (eb : b ≡ a + length (decimalText n)) where
-  pub by-length : b + 1 ≡ length (refusedBy n)
-  unfolding refusedBy
+  pub by-length : b + 1 ≡ length (refusedAudit n)
+  unfolding refusedAudit
   by-length = omega (arith, ea, eb, length-append (decimalText n) (10 ∷ []))
 
-  pub by-stored : (out : List ℕ) → sets (sets (sets out 0 refusedText) a (decimalText n)) b (10 ∷ []) ≡ sets out 0 (refusedBy n)
-  unfolding refusedBy
+  pub by-stored : (out : List ℕ) → sets (sets (sets out 0 refusedText) a (decimalText n)) b (10 ∷ []) ≡ sets out 0 (refusedAudit n)
+  unfolding refusedAudit
   by-stored out = sym
       (sets-append out 0 refusedText (decimalText n ++ (10 ∷ []))
       ∙ ap (λ (k : ℕ). sets (sets out 0 refusedText) k (decimalText n ++ (10 ∷ []))) (sym ea)

@@ -34,10 +34,14 @@ decimalOnto (suc k) n ds = cond (ltb n 10) ((48 + n) ∷ ds) (decimalOnto k (n /
 unfoldable pub decimalText : ℕ → List ℕ
 decimalText n = decimalOnto 20 n []
 
+-- `refused `
+abbrev pub refusedText : List ℕ
+refusedText = 114 ∷ 101 ∷ 102 ∷ 117 ∷ 115 ∷ 101 ∷ 100 ∷ 32 ∷ []
+
 -- `refused N line L`
 unfoldable pub refusedLine : ℕ → ℕ → List ℕ
 refusedLine n l =
-    (114 ∷ 101 ∷ 102 ∷ 117 ∷ 115 ∷ 101 ∷ 100 ∷ 32 ∷ [])
+    refusedText
     ++ (decimalText n ++ ((32 ∷ 108 ∷ 105 ∷ 110 ∷ 101 ∷ 32 ∷ []) ++ (decimalText l ++ (10 ∷ []))))
 
 -- ---- the lines of an audit: a record, or `refused N`
@@ -45,8 +49,8 @@ refusedLine n l =
 unfoldable pub recordLine : List ℕ → List ℕ
 recordLine entry = hexText entry ++ (10 ∷ [])
 
-unfoldable pub refusedBy : ℕ → List ℕ
-refusedBy n = (114 ∷ 101 ∷ 102 ∷ 117 ∷ 115 ∷ 101 ∷ 100 ∷ 32 ∷ []) ++ (decimalText n ++ (10 ∷ []))
+unfoldable pub refusedAudit : ℕ → List ℕ
+refusedAudit n = refusedText ++ (decimalText n ++ (10 ∷ []))
 
 -- ---- a line at the front of a lent buffer, if there is room for it
 

@@ -6,7 +6,7 @@ ghost use Prim.Native.Nat.{ℕ, _+_, _*_, _<_, _≤_};
 ghost use lib.ListN.{length, drop};
 ghost use lib.Seq.{sets};
 ghost use lib.Dec.{leb, eqb};
-ghost use Rattle.print.specs.Lines.{digitText, hexText, callLine, printed, printedLength, decimalText, refusedLine, recordLine, refusedBy, noLine, short};
+ghost use Rattle.print.specs.Lines.{digitText, hexText, callLine, printed, printedLength, decimalText, refusedLine, recordLine, refusedAudit, noLine, short};
 
 fn digit(n: u8) -> u8
     requires { ⌜ n < 16 ⌝ }
@@ -181,8 +181,8 @@ pub fn record_line(entry: [u8; 16]) -> Short
 }
 
 // The line of a refused audit.
-pub fn refused_by(number: u8) -> Short
-    ensures { λ r. ⌜ r ≡ short (refusedBy number) ⌝ }
+pub fn refused_audit(number: u8) -> Short
+    ensures { λ r. ⌜ r ≡ short (refusedAudit number) ⌝ }
 {
     let mut bytes = no_line();
     let a = bytes_into(b"refused ", &mut bytes, 0);

@@ -31,7 +31,8 @@ lineEnd text at = at + indexOf 10 (drop at text)
 unfoldable pub lineAt : List ℕ → ℕ → List ℕ
 lineAt text at = take (indexOf 10 (drop at text)) (drop at text)
 
--- the place of the next line: after the byte 10 that ends the line at a place, or where the text ends
+-- the place of the next line: after the byte 10 that ends the line at a place; without one, the end of the text, or the
+-- place itself if it is beyond
 unfoldable pub nextLine : List ℕ → ℕ → ℕ
 nextLine text at = cond (ltb (lineEnd text at) (length text)) (lineEnd text at + 1) (lineEnd text at)
 
@@ -62,7 +63,7 @@ hasNames (n ∷ ns) hs = hasName n hs && hasNames ns hs
 unfoldable pub namesOnce : List (List ℕ) → List (List ℕ) → Bool
 namesOnce ns hs = eqb (length hs) (length ns) && hasNames ns hs
 
--- the field under a name; no byte, which no column takes, where the name or the field is missing
+-- the field under a name; where the name or the field is missing, the empty field, which no column allows
 unfoldable pub under : List ℕ → List (List ℕ) → List (List ℕ) → List ℕ
 under name [] fs = []
 under name (h ∷ hs) [] = []

@@ -13,18 +13,6 @@ Inv-loop s out₀ n at₀ i₀ out at i = (n + n ≤ length s) × (length out �
 abbrev μ-loop : tie.MeasureT-loop
 μ-loop s out₀ n at₀ i₀ out at i = n - i
 
-slice-aggregate-same : tie.Need-slice-aggregate-same Inv-loop μ-loop
-slice-aggregate-same c = search needs
-
-returns : tie.Need-returns Inv-loop μ-loop
-returns c = search needs
-
-returns-2 : tie.Need-returns-2 Inv-loop μ-loop
-returns-2 c = search needs
-
-returns-3 : tie.Need-returns-3 Inv-loop μ-loop
-returns-3 c = search needs
-
 loop-holds : tie.Need-loop-holds Inv-loop μ-loop
 loop-holds c = search needs
 
@@ -37,12 +25,6 @@ mul-byte-at-2 c = search needs
 add-byte-at : tie.Need-add-byte-at Inv-loop μ-loop
 add-byte-at c = search needs
 
-same-length : tie.Need-same-length Inv-loop μ-loop
-same-length c = search needs
-
-returns-4 : tie.Need-returns-4 Inv-loop μ-loop
-returns-4 c = search needs
-
 add-i : tie.Need-add-i Inv-loop μ-loop
 add-i c = search needs
 
@@ -52,12 +34,12 @@ loop-less c = search needs
 loop-again : tie.Need-loop-again Inv-loop μ-loop
 loop-again c = search needs
 
-same-length-2 : tie.Need-same-length-2 Inv-loop μ-loop
-same-length-2 c = search needs
+same-length : tie.Need-same-length Inv-loop μ-loop
+same-length c = search needs
 
-returns-5 : tie.Need-returns-5 Inv-loop μ-loop
-returns-5 c = search needs
+returns : tie.Need-returns Inv-loop μ-loop
+returns c = search needs
 
 pub hex-into-spec : {M : Type 1} → statement M
 hex-into-spec =
-    tie.close (tie.spec Inv-loop μ-loop slice-aggregate-same (λ _ _. tt) returns (λ _ _. tt) returns-2 (λ _ _. tt) returns-3 loop-holds mul-byte-at (λ _ _. tt) mul-byte-at-2 add-byte-at (λ _ _. tt) (λ _ _. tt) (λ _ _. tt) same-length returns-4 (λ _ _. tt) (λ _ _. tt) add-i loop-less loop-again same-length-2 returns-5)
+    tie.close (tie.spec Inv-loop μ-loop loop-holds mul-byte-at (λ _ _. tt) mul-byte-at-2 add-byte-at (λ _ _. tt) (λ _ _. tt) (λ _ _. tt) add-i loop-less loop-again same-length returns)

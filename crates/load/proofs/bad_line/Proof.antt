@@ -30,14 +30,14 @@ returns-2 c =
     b ∙ sym (else-next _ _ (sym a ∙ c .before .before .before .if1 .left) ∙ else-first _ _ (λ z. c .if2 .taken (b ∙ z)))
 
 call-block-requires : tie.Need-call-block-requires
-call-block-requires c κs = (c .calls-from .ensures .1, c .calls-from .ensures .2)
+call-block-requires c κs = (c .calls-place .ensures .1, c .calls-place .ensures .2)
 
 returns-3 : tie.Need-returns-3
 unfolding badLine
 returns-3 c =
     let a = c .before .before .before .before .before .before .entity-block .ensures ∙ ap (blockBad entityNames entityGood false (c .before .before .before .before .before .before .before .before .before .args .text .now)) (c .before .before .before .before .before .before .before .entities-at .ensures) in
     let b = c .before .before .before .group-block .ensures ∙ ap (blockBad groupNames groupGood false (c .before .before .before .before .before .before .before .before .before .args .text .now)) (c .before .before .before .before .groups-at .ensures .0) in
-    let d = c .call-block .ensures ∙ ap (blockBad callNames callGood true (c .before .before .before .before .before .before .before .before .before .args .text .now)) (c .before .calls-from .ensures .0) in
+    let d = c .call-block .ensures ∙ ap (blockBad callNames callGood true (c .before .before .before .before .before .before .before .before .before .args .text .now)) (c .before .calls-place .ensures .0) in
     d ∙ sym (else-next _ _ (sym a ∙ c .before .before .before .before .before .if1 .left) ∙ else-next _ _ (sym b ∙ c .before .before .if2 .left))
 
 pub bad-line-spec : {M : Type 1} → statement M

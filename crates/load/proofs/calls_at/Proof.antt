@@ -6,7 +6,7 @@ use Rattle.load.proofs.calls_at.Tie as tie
 -- `load::calls_at` meets its contract. Assumes nothing.
 
 returns : tie.Need-returns
-returns c = ap (λ (p : Place). p .at) (c .calls-from .ensures .0)
+returns c = ap (λ (p : Place). p .at) (c .calls-place .ensures .0)
 
 pub calls-at-spec : {M : Type 1} → statement M
 calls-at-spec =

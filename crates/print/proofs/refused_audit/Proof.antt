@@ -4,13 +4,13 @@ use Prim.Native.Nat.{ℕ, _+_, _≤_}
 use native.Mathlib.Omega.{arith}
 use lib.ListN.{length}
 use lib.Seq.{sets}
-use Rattle.print.specs.Lines.{refusedBy, decimalText, noLine}
-use Rattle.print.proofs.Laws.{by-length, by-stored, refusedText, short-is}
+use Rattle.print.specs.Lines.{refusedText, refusedAudit, decimalText, noLine}
+use Rattle.print.proofs.Laws.{by-length, by-stored, short-is}
 use borrow.Author.Needs.{needs}
-use Rattle.print.proofs.refused_by.Statement.{statement}
-use Rattle.print.proofs.refused_by.Tie as tie
+use Rattle.print.proofs.refused_audit.Statement.{statement}
+use Rattle.print.proofs.refused_audit.Tie as tie
 
--- `print::refused_by` meets its contract. Assumes nothing.
+-- `print::refused_audit` meets its contract. Assumes nothing.
 
 slice-aggregate-bytes-into : tie.Need-slice-aggregate-bytes-into
 slice-aggregate-bytes-into c = search needs
@@ -47,8 +47,8 @@ returns c =
     let b = p .put-decimal .result in
     let ea = v .bytes-into .ensures .1 in
     let eb = p .put-decimal .ensures .1 in
-    let k : w .bytes-into2 .result ≡ length (refusedBy n) = w .bytes-into2 .ensures .1 ∙ by-length n a b ea eb in
-    short-is (refusedBy n) _ (w .bytes-into2 .result)
+    let k : w .bytes-into2 .result ≡ length (refusedAudit n) = w .bytes-into2 .ensures .1 ∙ by-length n a b ea eb in
+    short-is (refusedAudit n) _ (w .bytes-into2 .result)
     (w .bytes-into2 .ensures .0
     ∙ ap (λ (x : List ℕ). sets x b (10 ∷ [])) (p .put-decimal .ensures .0
     ∙ ap (λ (x : List ℕ). sets x a (decimalText n)) (v .bytes-into .ensures .0 ∙ ap (λ (x : List ℕ). sets x 0 refusedText) (z .no-line .ensures)))
@@ -56,7 +56,7 @@ returns c =
     k
     (omega (arith, k, w .bytes-into2 .ensures .1, ea, eb, p .put-decimal .ensures .2))
 
-pub refused-by-spec : {M : Type 1} → statement M
-refused-by-spec =
+pub refused-audit-spec : {M : Type 1} → statement M
+refused-audit-spec =
     tie.close
     (tie.spec (λ _ _. tt) slice-aggregate-bytes-into slice-aggregate-bytes-into-2 bytes-into-requires slice-aggregate-put-decimal put-decimal-requires slice-aggregate-bytes-into-3 slice-aggregate-bytes-into-4 bytes-into-requires-2 returns)
