@@ -78,12 +78,14 @@ module _ (hs fs : List (List ℕ)) (c : Call words) where
 
 pub record Faithful (t : Table) (c : Call words) : Type 0 where
   pub line : playedLine (played t (asCallRow (some c))) ≡ callLine (answer hub t c .entry) (answer hub t c .part)
+  pub entry : played t (asCallRow (some c)) .entry ≡ answer hub t c .entry
   pub table : played t (asCallRow (some c)) .table ≡ step hub t c
 
 put-faithful : (t : Table) (i : ℕ) (bs : List ℕ) → Faithful t (put i bs)
 unfolding quiet reply
 put-faithful t i bs = record {
   line = ap (λ (l : List ℕ). callLine (answer hub t (put i l) .entry) []) (take-room bs);
+  entry = ap (λ (l : List ℕ). answer hub t (put i l) .entry) (take-room bs);
   table = ap (λ (l : List ℕ). step hub t (put i l)) (take-room bs);
 }
 
@@ -91,17 +93,17 @@ show-faithful : (t : Table) (i : ℕ) → Faithful t (Rattle.rules.specs.Calls.
 unfolding showing reply shownPart shownBuffer
 show-faithful t i =
     let a = answer hub t (Rattle.rules.specs.Calls.show i showBuffer) in
-    record { line = ap (callLine (a .entry)) (take-append-seam (a .part) _); table = refl }
+    record { line = ap (callLine (a .entry)) (take-append-seam (a .part) _); entry = refl; table = refl }
 
 module _ (t : Table) (i j n p : ℕ) (bs : List ℕ) where
   pub faithful : (k : Form) → Faithful t (callAs k i j n p bs)
   unfolding quiet reply showBuffer
   faithful Form.Put = put-faithful t i bs
   faithful Form.Show = show-faithful t i
-  faithful Form.Send = record { line = refl; table = refl }
-  faithful Form.Fetch = record { line = refl; table = refl }
-  faithful Form.Add = record { line = refl; table = refl }
-  faithful Form.Drop = record { line = refl; table = refl }
-  faithful Form.Create = record { line = refl; table = refl }
-  faithful Form.Release = record { line = refl; table = refl }
-  faithful Form.Hand = record { line = refl; table = refl }
+  faithful Form.Send = record { line = refl; entry = refl; table = refl }
+  faithful Form.Fetch = record { line = refl; entry = refl; table = refl }
+  faithful Form.Add = record { line = refl; entry = refl; table = refl }
+  faithful Form.Drop = record { line = refl; entry = refl; table = refl }
+  faithful Form.Create = record { line = refl; entry = refl; table = refl }
+  faithful Form.Release = record { line = refl; entry = refl; table = refl }
+  faithful Form.Hand = record { line = refl; entry = refl; table = refl }

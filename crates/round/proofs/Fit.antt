@@ -1,4 +1,4 @@
--- The line of a record and of at most 64 bytes shown has room in 162 bytes, and stands at their front.
+-- The line of a record and of at most 64 bytes shown has room in 162 bytes.
 -- Assumes nothing.
 use mathlib.Core.Path.{_≡_, refl, ap, _∙_}
 use mathlib.Core.Bool.{Bool, true, false, cond}
@@ -12,10 +12,6 @@ use Rattle.print.specs.Lines.{callLine, printed, printedLength}
 use Rattle.print.proofs.Laws.{line-length}
 use Rattle.round.specs.declared.Line.{Line}
 use Rattle.round.specs.Round.{noLine, asLine}
-
-pub take-front : (l d : List ℕ) → take (length l) (l ++ d) ≡ l
-take-front [] d = refl
-take-front (x ∷ xs) d = ap (λ (ys : List ℕ). x ∷ ys) (take-front xs d)
 
 length-no-line : length noLine ≡ 162
 unfolding noLine

@@ -1,3 +1,4 @@
 pub mod Calls
 pub mod Fit
 pub mod Round
+pub mod Listing

@@ -8,11 +8,12 @@ use Prim.Native.Nat.{ℕ, zero, suc, _+_, _≤_, _<_}
 use native.Mathlib.Omega.{arith}
 use lib.Dec.{eqb, ltb}
 use lib.ListN.{length, take, drop}
+use lib.Seq.{take-append-seam}
 use borrow.Author.Tests.{eq-eqb, ne-eqb, eqb-false, ltb-true, ltb-false, lt-ltb, le-ltb}
 use Rattle.rules.specs.Calls.{Call}
 use Rattle.rules.specs.Refusals.{step}
 use Rattle.rules.specs.Record.{answer}
-use Rattle.rules.specs.Runs.{trace}
+use Rattle.rules.specs.Runs.{final, trace}
 use Rattle.label.specs.Words.{words}
 use Rattle.monitor.specs.declared.Table.{Table}
 use Rattle.monitor.specs.Table.{hub}
@@ -32,8 +33,8 @@ use Rattle.load.specs.Round.{callsFrom, callsOf, callAt}
 use Rattle.load.proofs.Laws.{rows-cut, last-bad, last-step}
 use Rattle.round.specs.declared.Played.{Played}
 use Rattle.round.specs.Played.{played}
-use Rattle.round.specs.Round.{playedLine, noLine, asLine, stepWith, stepOf, playFrom, answerLine, RoundRuns, namesLine, outputWith, outputOf, OutputRuns}
-use Rattle.round.proofs.Fit.{take-front}
+use Rattle.round.specs.declared.Step.{Step}
+use Rattle.round.specs.Round.{playedLine, noLine, asLine, stepWith, stepOf, onto, playFrom, playAll, lineBy, recordBy, answerLine, RoundRuns, RecordsRun, namesLine, outputWith, outputOf, OutputRuns}
 use Rattle.round.proofs.Calls.{Formed, call-formed, Faithful, faithful}
 
 call-faithful : (t : Table) (c : Call words) → Formed c → Faithful t c
@@ -60,29 +61,31 @@ pub step-later : (text : List ℕ) (names at : ℕ) (t : Table) → at < length 
 unfolding stepWith
 step-later text names at t h = next-later text at h
 
-module _ (text : List ℕ) (names : ℕ) where
+-- what each step gives, where it is what a rule gives for the call
+module _ {X : Type 0} (give : Step → List X) (rule : Table → Call words → List X) (text : List ℕ) (names : ℕ)
+    (same : (at : ℕ) (t : Table) (c : Call words) → Faithful t c → give (stepWith text at (played t (asCallRow (some c)))) ≡ rule t c) where
   abbrev hs : List (List ℕ)
   hs = fieldsOf (lineAt text names)
 
-  run : Table → Lines → List (List ℕ)
-  run t ls = trace (step hub) answerLine t (callsFrom hs ls)
+  abbrev runOf : Table → List (Call words) → List X × Table
+  runOf t cs = (trace (step hub) rule t cs, final (step hub) t cs)
 
-  play-none : (k at : ℕ) (t : Table) → length text ≤ at → playFrom text names k at t ≡ []
+  run : Table → Lines → List X × Table
+  run t ls = runOf t (callsFrom hs ls)
+
+  play-none : (k at : ℕ) (t : Table) → length text ≤ at → playFrom give text names k at t ≡ ([], t)
   unfolding playFrom
   play-none zero at t h = refl
   play-none (suc k) at t h = rw (le-ltb _ _ h)
 
   play-one : (k at : ℕ) (t : Table) → at < length text
-      → playFrom text names (suc k) at t ≡ playedLine (played t (callAt text names at)) ∷ playFrom text names k (nextLine text at) (played t (callAt text names at) .table)
-  unfolding playFrom stepWith asLine
-  play-one k at t h =
-      let l = playedLine (played t (callAt text names at)) in
-      let f : take (length l) (l ++ drop (length l) noLine) ≡ l = take-front l (drop (length l) noLine) in
-      rw (lt-ltb _ _ h, f)
+      → playFrom give text names (suc k) at t ≡ onto give (give (stepOf text names at t)) (playFrom give text names k (stepOf text names at t .at) (stepOf text names at t .table))
+  unfolding playFrom
+  play-one k at t h = rw (lt-ltb _ _ h)
 
-  run-none : (at : ℕ) (t : Table) → length text ≤ at → run t (linesOf (drop at text)) ≡ []
+  run-none : (at : ℕ) (t : Table) → length text ≤ at → run t (linesOf (drop at text)) ≡ ([], t)
   unfolding run
-  run-none at t h = ap (λ (cs : List (Call words)). trace (step hub) answerLine t cs) (ap (callsFrom hs) (lines-end text at h) ∙ calls-done hs)
+  run-none at t h = ap (runOf t) (ap (callsFrom hs) (lines-end text at h) ∙ calls-done hs)
 
   -- a row that is a call
   module _ (at : ℕ) (t : Table) (c : Call words) (e : callOf hs (fieldsOf (lineAt text at)) ≡ some c) where
@@ -90,37 +93,45 @@ module _ (text : List ℕ) (names : ℕ) where
     unfolding callAt
     call-is = ap asCallRow e
 
-    first : playedLine (played t (callAt text names at)) ≡ callLine (answer hub t c .entry) (answer hub t c .part)
-    first = ap (λ (r : CallRow). playedLine (played t r)) call-is ∙ (call-faithful t c (call-formed hs (fieldsOf (lineAt text at)) c e) .line)
+    is-faithful : Faithful t c
+    is-faithful = call-faithful t c (call-formed hs (fieldsOf (lineAt text at)) c e)
 
-    next : played t (callAt text names at) .table ≡ step hub t c
-    next = ap (λ (r : CallRow). played t r .table) call-is ∙ call-faithful t c (call-formed hs (fieldsOf (lineAt text at)) c e) .table
+    first : give (stepOf text names at t) ≡ rule t c
+    first = ap (λ (r : CallRow). give (stepWith text at (played t r))) call-is ∙ same at t c is-faithful
 
-    run-one : (ls : Lines) → run t (line (lineAt text at) ls) ≡ callLine (answer hub t c .entry) (answer hub t c .part) ∷ run (step hub t c) ls
+    next : stepOf text names at t .table ≡ step hub t c
+    unfolding stepWith
+    next = ap (λ (r : CallRow). played t r .table) call-is ∙ is-faithful .table
+
+    place : stepOf text names at t .at ≡ nextLine text at
+    unfolding stepWith
+    place = refl
+
+    run-one : (ls : Lines) → run t (line (lineAt text at) ls) ≡ onto give (rule t c) (run (step hub t c) ls)
     unfolding run
-    run-one ls = ap (λ (cs : List (Call words)). trace (step hub) answerLine t cs) (calls-line hs (lineAt text at) ls c e)
+    run-one ls = ap (runOf t) (calls-line hs (lineAt text at) ls c e)
 
   module _ (k at n i : ℕ) (t : Table) (m : length text ≤ at + suc k) (p : 0 < n) (b : rowsBad (callGood hs) true n i (linesOf (drop at text)) ≡ 0)
       (ih : (u : Table) → rowsBad (callGood hs) true (n + 1) (i + 1) (linesOf (drop (lineEnd text at + 1) text)) ≡ 0
-      → playFrom text names k (lineEnd text at + 1) u ≡ run u (linesOf (drop (lineEnd text at + 1) text))) where
+      → playFrom give text names k (lineEnd text at + 1) u ≡ run u (linesOf (drop (lineEnd text at + 1) text))) where
     module _ (l : at < length text) (w : lineEnd text at < length text) where
       here : linesOf (drop at text) ≡ line (lineAt text at) (linesOf (drop (lineEnd text at + 1) text))
       here = line-here text at (lineEnd text at) refl (omega arith) w .is
 
       call : (c : Call words) → callOf hs (fieldsOf (lineAt text at)) ≡ some c → callGood hs i (lineAt text at) ≡ true
-          → playFrom text names (suc k) at t ≡ run t (linesOf (drop at text))
+          → playFrom give text names (suc k) at t ≡ run t (linesOf (drop at text))
       call c e g =
           play-one k at t l
-          ∙ ap₂ (λ (x : List ℕ) (xs : List (List ℕ)). x ∷ xs) (first at t c e)
-          (ap₂ (playFrom text names k) (next-whole text at w) (next at t c e) ∙ ih (step hub t c) (sym (last-step (callGood hs) n i here g) ∙ b))
+          ∙ ap₂ (onto give) (first at t c e)
+          (ap₂ (playFrom give text names k) (place at t c e ∙ next-whole text at w) (next at t c e) ∙ ih (step hub t c) (sym (last-step (callGood hs) n i here g) ∙ b))
           ∙ sym (ap (run t) here ∙ run-one at t c e (linesOf (drop (lineEnd text at + 1) text)))
 
-      row : (g : Bool) → callGood hs i (lineAt text at) ≡ g → playFrom text names (suc k) at t ≡ run t (linesOf (drop at text))
+      row : (g : Bool) → callGood hs i (lineAt text at) ≡ g → playFrom give text names (suc k) at t ≡ run t (linesOf (drop at text))
       unfolding callGood
       row true g = let s = good-some (callOf hs (fieldsOf (lineAt text at))) g in call (s .0) (s .1) g
       row false g = let q = sym (last-bad (callGood hs) n i here g) ∙ b in absurd (omega arith)
 
-    turn : (v : Bool) → ltb at (length text) ≡ v → (w : Bool) → ltb (lineEnd text at) (length text) ≡ w → playFrom text names (suc k) at t ≡ run t (linesOf (drop at text))
+    turn : (v : Bool) → ltb at (length text) ≡ v → (w : Bool) → ltb (lineEnd text at) (length text) ≡ w → playFrom give text names (suc k) at t ≡ run t (linesOf (drop at text))
     turn true f true g =
         row (ltb-true at (length text) f) (ltb-true (lineEnd text at) (length text) g) (callGood hs i (lineAt text at)) refl
     turn true f false g =
@@ -133,7 +144,7 @@ module _ (text : List ℕ) (names : ℕ) where
         play-none (suc k) at t l ∙ sym (run-none at t l)
 
   steps : (k at n i : ℕ) (t : Table) → length text ≤ at + k → 0 < n → rowsBad (callGood hs) true n i (linesOf (drop at text)) ≡ 0
-      → playFrom text names k at t ≡ run t (linesOf (drop at text))
+      → playFrom give text names k at t ≡ run t (linesOf (drop at text))
   steps zero at n i t m p b = play-none zero at t (omega arith) ∙ sym (run-none at t (omega arith))
   steps (suc k) at n i t m p b =
       turn k at n i t m p b (λ u d. steps k (lineEnd text at + 1) (n + 1) (i + 1) u (omega (arith, end-later text at)) (omega arith) d) (ltb at (length text)) refl (ltb (lineEnd text at) (length text)) refl
@@ -161,13 +172,31 @@ calls-line-number : (text : List ℕ) → 0 < callsAt text .line
 unfolding callsAt groupsAt pastEmpty start
 calls-line-number text = omega arith
 
+module _ {X : Type 0} (give : Step → List X) (rule : Table → Call words → List X) where
+  all-runs : (text : List ℕ) → ((at : ℕ) (t : Table) (c : Call words) → Faithful t c → give (stepWith text at (played t (asCallRow (some c)))) ≡ rule t c) → verdictOf text ≡ Accepted
+      → playAll give text (loadOf text .table) ≡ (trace (step hub) rule (loadOf text .table) (callsOf text), final (step hub) (loadOf text .table) (callsOf text))
+  unfolding callsOf run badLine
+  all-runs text same e =
+      let b = bad-none text e in
+      let q = else-none _ _ (else-none _ _ b) in
+      steps give rule text (callsAt text .at) same (length text) (nextLine text (callsAt text .at)) (callsAt text .line + 1) 0 (loadOf text .table) (omega arith) (omega arith)
+      (rows-none text (callsAt text) (calls-line-number text) q)
+
+line-given : (text : List ℕ) (at : ℕ) (t : Table) (c : Call words) → Faithful t c → lineBy (stepWith text at (played t (asCallRow (some c)))) ≡ answerLine t c
+unfolding stepWith asLine
+line-given text at t c f =
+    let l = playedLine (played t (asCallRow (some c))) in
+    ap (λ (x : List ℕ). x ∷ []) (take-append-seam l (drop (length l) noLine) ∙ f .line)
+
+record-given : (text : List ℕ) (at : ℕ) (t : Table) (c : Call words) → Faithful t c → recordBy (stepWith text at (played t (asCallRow (some c)))) ≡ answer hub t c .entry
+unfolding stepWith
+record-given text at t c f = f .entry
+
 pub round-runs : RoundRuns
-unfolding callsOf run badLine
-round-runs text e =
-    let b = bad-none text e in
-    let q = else-none _ _ (else-none _ _ b) in
-    steps text (callsAt text .at) (length text) (nextLine text (callsAt text .at)) (callsAt text .line + 1) 0 (loadOf text .table) (omega arith) (omega arith)
-    (rows-none text (callsAt text) (calls-line-number text) q)
+round-runs text e = ap (λ (r : List (List ℕ) × Table). r .0) (all-runs lineBy answerLine text (line-given text) e)
+
+pub records-run : RecordsRun
+records-run text e = all-runs recordBy (λ (u : Table) (c : Call words). answer hub u c .entry) text (record-given text) e
 
 pub output-runs : OutputRuns
 output-runs text = go (verdictOf text) refl

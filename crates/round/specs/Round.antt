@@ -3,13 +3,14 @@
 use mathlib.Core.Path.{_≡_}
 use mathlib.Core.Bool.{cond}
 use mathlib.Core.List.{List, [], _∷_, _++_}
-use Prim.Native.Nat.{ℕ, zero, suc}
-use lib.Dec.{ltb}
+use Prim.Native.Nat.{ℕ, zero, suc, _+_, _-_, _%_}
+use lib.Dec.{ltb, leb}
+use lib.Seq.{paste}
 use lib.ListN.{length, take, drop, replicate}
 use Rattle.rules.specs.Calls.{Call}
 use Rattle.rules.specs.Refusals.{step}
 use Rattle.rules.specs.Record.{answer}
-use Rattle.rules.specs.Runs.{trace}
+use Rattle.rules.specs.Runs.{final, trace, records}
 use Rattle.label.specs.Words.{words}
 use Rattle.monitor.specs.declared.Table.{Table}
 use Rattle.monitor.specs.Table.{hub}
@@ -22,6 +23,7 @@ use Rattle.print.specs.Lines.{callLine, refusedLine}
 use Rattle.round.specs.declared.Played.{Played}
 use Rattle.round.specs.declared.Line.{Line}
 use Rattle.round.specs.declared.Step.{Step}
+use Rattle.round.specs.declared.Ended.{Ended}
 use Rattle.round.specs.Played.{played}
 
 -- ---- by the program's functions
@@ -39,20 +41,50 @@ asLine l = record { bytes = l ++ drop (length l) noLine; len = length l }
 
 -- one line of calls at a place, played on a table
 unfoldable pub stepWith : List ℕ → ℕ → Played → Step
-stepWith text at p = record { table = p .table; at = nextLine text at; line = asLine (playedLine p) }
+stepWith text at p = record { table = p .table; at = nextLine text at; entry = p .entry; line = asLine (playedLine p) }
 
 abbrev pub stepOf : List ℕ → ℕ → ℕ → Table → Step
 stepOf text names at t = stepWith text at (played t (callAt text names at))
 
--- Line after line from a place on, at most k, each played on the table that the one before left
-module _ (text : List ℕ) (names : ℕ) where
-  unfoldable pub playFrom : ℕ → ℕ → Table → List (List ℕ)
-  playFrom zero at t = []
-  playFrom (suc k) at t =
-      let s = stepOf text names at t in cond (ltb at (length text)) (take (s .line .len) (s .line .bytes) ∷ playFrom k (s .at) (s .table)) []
+-- Line after line from a place on, at most k, each played on the table that the one before left: what the steps give, in
+-- order, and the table at the end
+module _ {X : Type 0} (give : Step → List X) where
+  abbrev pub onto : List X → List X × Table → List X × Table
+  onto xs r = (xs ++ r .0, r .1)
+
+  module _ (text : List ℕ) (names : ℕ) where
+    unfoldable pub playFrom : ℕ → ℕ → Table → List X × Table
+    playFrom zero at t = ([], t)
+    playFrom (suc k) at t =
+        let s = stepOf text names at t in cond (ltb at (length text)) (onto (give s) (playFrom k (s .at) (s .table))) ([], t)
+
+  -- all lines of a text's calls
+  abbrev pub playAll : List ℕ → Table → List X × Table
+  playAll text t = playFrom text (callsAt text .at) (length text) (nextLine text (callsAt text .at)) t
+
+-- a step gives the line that is printed, or its record
+abbrev pub lineBy : Step → List (List ℕ)
+lineBy s = take (s .line .len) (s .line .bytes) ∷ []
+
+abbrev pub recordBy : Step → List ℕ
+recordBy s = s .entry
 
 abbrev pub roundOf : List ℕ → List (List ℕ)
-roundOf text = playFrom text (callsAt text .at) (length text) (nextLine text (callsAt text .at)) (loadOf text .table)
+roundOf text = playAll lineBy text (loadOf text .table) .0
+
+-- a record behind the first n bytes of a buffer, if it has room, and where it ends
+abbrev pub appended : List ℕ → ℕ → List ℕ → List ℕ
+appended out n entry = cond (leb (n + 16) (length out)) (paste out n entry 16) out
+
+abbrev pub appendedAt : List ℕ → ℕ → ℕ
+appendedAt out n = cond (leb (n + 16) (length out)) (n + 16) n
+
+-- the records of all calls from a table on that have room in `room` bytes, each as a whole
+abbrev pub listed : List ℕ → Table → ℕ → List ℕ
+listed text t room = take (room - room % 16) (playAll recordBy text t .0)
+
+abbrev pub endedOf : List ℕ → Table → ℕ → Ended
+endedOf text t room = record { table = playAll recordBy text t .1; len = length (listed text t room) }
 
 -- ---- by the rules
 
@@ -63,6 +95,11 @@ answerLine t c = callLine (answer hub t c .entry) (answer hub t c .part) ∷ []
 -- The lines of an accepted text's round are those of the run of its calls from its table
 abbrev pub RoundRuns : Type 0
 RoundRuns = (text : List ℕ) → verdictOf text ≡ Accepted → roundOf text ≡ trace (step hub) answerLine (loadOf text .table) (callsOf text)
+
+-- The records of an accepted text's calls, and the table after them, are those of the run
+abbrev pub RecordsRun : Type 0
+RecordsRun = (text : List ℕ) → verdictOf text ≡ Accepted → let t = loadOf text .table in
+    playAll recordBy text t ≡ (records hub t (callsOf text), final (step hub) t (callsOf text))
 
 -- ---- what the program prints
 

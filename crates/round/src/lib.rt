@@ -5,9 +5,10 @@ ghost use lib.ListN.{length, take};
 ghost use Rattle.rows.specs.Calls.{showBuffer};
 ghost use Rattle.print.specs.Lines.{callLine, printed, printedLength};
 ghost use Rattle.rules.specs.Calls.{put};
+ghost use Rattle.rules.specs.Record.{filled};
 ghost use Rattle.monitor.specs.Calls.{reply};
 ghost use Rattle.round.specs.Played.{quiet, showing, unplayed, played};
-ghost use Rattle.round.specs.Round.{noLine, asLine, stepOf};
+ghost use Rattle.round.specs.Round.{noLine, asLine, stepOf, listed, endedOf, appended, appendedAt};
 use monitor::Reply;
 use monitor::Table;
 use rows::Asked;
@@ -107,11 +108,18 @@ pub struct Line {
     pub len: usize,
 }
 
-// What a line of calls comes to: the table after its call, where the next line starts, and what is printed.
+// What a line of calls comes to: the table after its call, where the next line starts, the record, and what is printed.
 pub struct Step {
     pub table: Table,
     pub at: usize,
+    pub entry: [u8; 16],
     pub line: Line,
+}
+
+// The table after some calls, and how many bytes of a lent buffer their records take.
+pub struct Ended {
+    pub table: Table,
+    pub len: usize,
 }
 
 fn no_line() -> [u8; 162]
@@ -155,6 +163,49 @@ pub fn play_at(text: &[u8], names: usize, at: usize, table: Table) -> Step
     Step {
         table: next,
         at: after,
+        entry: entry,
         line: line,
+    }
+}
+
+// Puts a record behind the first n bytes of a buffer, and answers where it ends; where it has no room, nothing and n.
+fn append(out: &mut [u8], n: usize, entry: [u8; 16]) -> usize
+    ensures { λ r. ⌜ (now (out .exit) ≡ appended (now (out .entry)) n entry) × (r ≡ appendedAt (now (out .entry)) n) × (length entry ≡ 16) ⌝ }
+{
+    if out.len() < 16 {
+        return n;
+    }
+    if out.len() - 16 < n {
+        return n;
+    }
+    let mut i = 0;
+    while i < 16 {
+        out[n + i] = entry[i];
+        i += 1;
+    }
+    n + 16
+}
+
+// Plays all calls of a text from a table on. Their records go to the front of a lent buffer, in order, as far as they have
+// room there.
+pub fn play_calls(text: &[u8], start: Table, out: &mut [u8]) -> Ended
+    ensures { λ r. ⌜ r ≡ endedOf (now (text .entry)) start (length (now (out .entry))) ⌝ }
+    ensures { λ _. ⌜ now (out .exit) ≡ filled (listed (now (text .entry)) start (length (now (out .entry)))) (now (out .entry)) ⌝ }
+{
+    let names = load::calls_at(text);
+    let mut table = start;
+    let mut n = 0;
+    let mut at = text::next_line(text, names);
+    while at < text.len() {
+        let s = play_at(text, names, at, table);
+        let entry = s.entry;
+        n = append(out, n, entry);
+        let next = s.table;
+        table = next;
+        at = s.at;
+    }
+    Ended {
+        table: table,
+        len: n,
     }
 }

@@ -13,7 +13,7 @@ returns c =
     let q = c .before .before .before .before .before in
     let a = q .before .before .before .args in
     let p = q .play .result in
-    (λ i. record { table = p .table; at = c .next-line .ensures i; line = c .before .line-of .ensures i })
+    (λ i. record { table = p .table; at = c .next-line .ensures i; entry = p .entry; line = c .before .line-of .ensures i })
     ∙ ap (stepWith (now (a .text)) (a .at)) (q .play .ensures ∙ ap (played (a .table)) (q .before .call-at .ensures))
 
 pub play-at-spec : {M : Type 1} → statement M
