@@ -50,13 +50,6 @@ fn push_all(out: &mut [u8], from: usize, src: &[u8]) -> usize {
     at
 }
 
-fn front<'a>(s: &'a [u8], n: usize) -> &'a [u8] {
-    if n <= s.len() {
-        return &s[..n];
-    }
-    s
-}
-
 fn fill(out: &mut [u8], n: usize, b: u8) {
     let mut i = 0;
     while i < n {
@@ -308,7 +301,7 @@ fn spell(s: &[u8], out: &mut [u8]) -> usize {
 fn print_digits(s: &[u8]) {
     let mut out = digit_buffer();
     let n = spell(s, &mut out);
-    io::write_all(STDOUT_FILENO, front(&out, n));
+    io::write_all(STDOUT_FILENO, text::front(&out, n));
 }
 
 fn print_field(s: &[u8]) {
@@ -324,20 +317,20 @@ fn print_digest(table: Table) {
     let mut out = io::buffer();
     let n = push_table(&mut out, table);
     io::write_all(STDOUT_FILENO, b" ");
-    io::print_hex(STDOUT_FILENO, digest(front(&out, n)), 16);
+    io::print_hex(STDOUT_FILENO, digest(text::front(&out, n)), 16);
     io::write_all(STDOUT_FILENO, b"\n");
 }
 
 fn print_dump(table: Table) {
     let mut out = io::buffer();
     let n = push_table(&mut out, table);
-    print_digits(front(&out, n));
+    print_digits(text::front(&out, n));
     io::write_all(STDOUT_FILENO, b"\n");
 }
 
 // The part, the lent buffer that it is the front of, and the digest.
 fn print_rest(lent: &[u8], part: usize, table: Table) {
-    print_field(front(lent, part));
+    print_field(text::front(lent, part));
     print_field(lent);
     print_digest(table);
 }
@@ -479,7 +472,7 @@ fn show_filled(table: Table, caller: u8, n: usize, b: u8) -> Step {
     let mut room = io::large_buffer();
     fill(&mut room, n, b);
     let r = show_front(table, caller, &mut room, n);
-    called(r, front(&room, n))
+    called(r, text::front(&room, n))
 }
 
 fn show(table: Table, row: &[u8]) -> Step {
@@ -510,7 +503,7 @@ fn audit_filled(table: Table, caller: u8, list: &[u8], n: usize, b: u8) {
     fill(&mut room, n, b);
     let part = table.audit_len(caller, list, n);
     let v = audit_front(table, caller, list, &mut room, n);
-    print_audit(v, front(&room, n), part, table);
+    print_audit(v, text::front(&room, n), part, table);
 }
 
 fn audit(table: Table, row: &[u8], list: &[u8]) -> Step {
@@ -574,7 +567,7 @@ fn with_data(table: Table, row: &[u8]) -> Step {
     if is_data(w) {
         let mut room = io::large_buffer();
         let n = hex_into(w, &mut room);
-        return given(table, row, front(&room, n));
+        return given(table, row, text::front(&room, n));
     }
     no_call(Done::Bad, table)
 }
@@ -701,7 +694,7 @@ fn run(script: &[u8], records: &mut [u8]) {
     while 0 < rest.len() {
         line += 1;
         let end = text::index_of(rest, 10);
-        let s = command(table, front(rest, end), front(records, kept));
+        let s = command(table, text::front(rest, end), text::front(records, kept));
         let done = s.done;
         let entry = s.entry;
         if is_bad(done) {
@@ -722,5 +715,5 @@ fn main() {
     let mut script = io::large_buffer();
     let mut records = io::large_buffer();
     let n = io::read_full(STDIN_FILENO, &mut script);
-    run(front(&script, n), &mut records);
+    run(text::front(&script, n), &mut records);
 }

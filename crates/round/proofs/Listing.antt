@@ -10,12 +10,11 @@ use lib.ListN.{length, take, drop, length-take, length-drop, length-append}
 use lib.Seq.{paste, take-all, take-append-le, take-at, drop-append-add, drop-drop}
 use borrow.Author.Tests.{leb-true, leb-false, lt-ltb, le-ltb}
 use Rattle.rules.specs.Record.{filled}
+use Rattle.rules.proofs.Refused.{filled-length}
 use Rattle.monitor.specs.declared.Table.{Table}
-use Rattle.round.specs.Round.{stepOf, onto, playFrom, recordBy, appended, appendedAt}
+use Rattle.round.specs.Round.{stepOf, onto, playFrom, recordBy}
+use Rattle.round.specs.Parts.{appended, appendedAt}
 use Rattle.round.proofs.Round.{step-later}
-
-length-filled : (p out : List ℕ) → length p ≤ length out → length (filled p out) ≡ length out
-length-filled p out h = omega (arith, length-append p (drop (length p) out), length-drop (length p) out)
 
 -- sixteen bytes behind a front that fills a buffer
 paste-front : (d e out : List ℕ) → length d + 16 ≤ length out → length e ≡ 16 → paste (filled d out) (length d) e 16 ≡ filled (d ++ e) out
@@ -37,7 +36,7 @@ module _ (text : List ℕ) (names : ℕ) (whole : List ℕ × Table) (out₀ : L
     pub done : List ℕ
     pub count : ℕ
     pub sixteens : length done ≡ count * 16
-    pub is : whole ≡ onto recordBy done (playFrom recordBy text names left at t)
+    pub is : whole ≡ onto done (playFrom recordBy text names left at t)
     pub len : n ≡ length (take room done)
     pub held : out ≡ filled (take room done) out₀
 
@@ -48,10 +47,10 @@ module _ (text : List ℕ) (names : ℕ) (whole : List ℕ × Table) (out₀ : L
       nil = take-all {A = ℕ} room [] (omega arith)
 
   pub listed-same : (out : List ℕ) (t : Table) (n at : ℕ) → Listed out t n at → length out ≡ length out₀
-  listed-same out t n at l = ap length (l .held) ∙ length-filled (take room (l .done)) out₀ (omega (arith, length-take room (l .done)))
+  listed-same out t n at l = ap length (l .held) ∙ filled-length (take room (l .done)) out₀ (omega (arith, length-take room (l .done)))
 
   module _ (out : List ℕ) (t : Table) (n at : ℕ) (l : Listed out t n at) (h : at < length text) (e : List ℕ) (f : e ≡ stepOf text names at t .entry) (g : length e ≡ 16) where
-    play-one : (k : ℕ) → playFrom recordBy text names (suc k) at t ≡ onto recordBy e (playFrom recordBy text names k (stepOf text names at t .at) (stepOf text names at t .table))
+    play-one : (k : ℕ) → playFrom recordBy text names (suc k) at t ≡ onto e (playFrom recordBy text names k (stepOf text names at t .at) (stepOf text names at t .table))
     unfolding playFrom
     play-one k = rw (lt-ltb _ _ h, f) refl
 
@@ -85,7 +84,7 @@ module _ (text : List ℕ) (names : ℕ) (whole : List ℕ × Table) (out₀ : L
     pub listed-more : Listed (appended out n e) (stepOf text names at t .table) (appendedAt out n) (stepOf text names at t .at)
     listed-more = go (l .left) (l .enough) (l .is)
       where
-        go : (k : ℕ) → length text ≤ at + k → whole ≡ onto recordBy (l .done) (playFrom recordBy text names k at t)
+        go : (k : ℕ) → length text ≤ at + k → whole ≡ onto (l .done) (playFrom recordBy text names k at t)
             → Listed (appended out n e) (stepOf text names at t .table) (appendedAt out n) (stepOf text names at t .at)
         go zero p q = absurd (omega arith)
         go (suc k) p q =
@@ -96,7 +95,7 @@ module _ (text : List ℕ) (names : ℕ) (whole : List ℕ × Table) (out₀ : L
               done = done′;
               count = l .count + 1;
               sixteens = omega (arith, length-append (l .done) e, g, l .sixteens);
-              is = q ∙ ap (onto recordBy (l .done)) (play-one k) ∙ ap {B = List ℕ × Table} (λ (x : List ℕ). (x, r .1)) (sym (append-assoc (l .done) e (r .0)));
+              is = q ∙ ap (onto (l .done)) (play-one k) ∙ ap {B = List ℕ × Table} (λ (x : List ℕ). (x, r .1)) (sym (append-assoc (l .done) e (r .0)));
               len = w .0;
               held = w .1;
             }
@@ -105,7 +104,7 @@ module _ (text : List ℕ) (names : ℕ) (whole : List ℕ × Table) (out₀ : L
       → (whole .1 ≡ t) × (n ≡ length (take room (whole .0))) × (out ≡ filled (take room (whole .0)) out₀)
   unfolding playFrom
   listed-end out t n at l h =
-      let e : whole ≡ (l .done ++ [], t) = l .is ∙ ap (onto recordBy (l .done)) (none (l .left)) in
+      let e : whole ≡ (l .done ++ [], t) = l .is ∙ ap (onto (l .done)) (none (l .left)) in
       let d : l .done ≡ whole .0 = sym (ap (λ (r : List ℕ × Table). r .0) e ∙ append-nil (l .done)) in
       (ap (λ (r : List ℕ × Table). r .1) e, l .len ∙ ap (λ (x : List ℕ). length (take room x)) d, l .held ∙ ap (λ (x : List ℕ). filled (take room x) out₀) d)
     where

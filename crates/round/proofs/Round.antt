@@ -79,7 +79,7 @@ module _ {X : Type 0} (give : Step → List X) (rule : Table → Call words → 
   play-none (suc k) at t h = rw (le-ltb _ _ h)
 
   play-one : (k at : ℕ) (t : Table) → at < length text
-      → playFrom give text names (suc k) at t ≡ onto give (give (stepOf text names at t)) (playFrom give text names k (stepOf text names at t .at) (stepOf text names at t .table))
+      → playFrom give text names (suc k) at t ≡ onto (give (stepOf text names at t)) (playFrom give text names k (stepOf text names at t .at) (stepOf text names at t .table))
   unfolding playFrom
   play-one k at t h = rw (lt-ltb _ _ h)
 
@@ -107,7 +107,7 @@ module _ {X : Type 0} (give : Step → List X) (rule : Table → Call words → 
     unfolding stepWith
     place = refl
 
-    run-one : (ls : Lines) → run t (line (lineAt text at) ls) ≡ onto give (rule t c) (run (step hub t c) ls)
+    run-one : (ls : Lines) → run t (line (lineAt text at) ls) ≡ onto (rule t c) (run (step hub t c) ls)
     unfolding run
     run-one ls = ap (runOf t) (calls-line hs (lineAt text at) ls c e)
 
@@ -122,7 +122,7 @@ module _ {X : Type 0} (give : Step → List X) (rule : Table → Call words → 
           → playFrom give text names (suc k) at t ≡ run t (linesOf (drop at text))
       call c e g =
           play-one k at t l
-          ∙ ap₂ (onto give) (first at t c e)
+          ∙ ap₂ onto (first at t c e)
           (ap₂ (playFrom give text names k) (place at t c e ∙ next-whole text at w) (next at t c e) ∙ ih (step hub t c) (sym (last-step (callGood hs) n i here g) ∙ b))
           ∙ sym (ap (run t) here ∙ run-one at t c e (linesOf (drop (lineEnd text at + 1) text)))
 

@@ -3,9 +3,8 @@
 use mathlib.Core.Path.{_≡_}
 use mathlib.Core.Bool.{cond}
 use mathlib.Core.List.{List, [], _∷_, _++_}
-use Prim.Native.Nat.{ℕ, zero, suc, _+_, _-_, _%_}
-use lib.Dec.{ltb, leb}
-use lib.Seq.{paste}
+use Prim.Native.Nat.{ℕ, zero, suc, _-_, _%_}
+use lib.Dec.{ltb}
 use lib.ListN.{length, take, drop, replicate}
 use Rattle.rules.specs.Calls.{Call}
 use Rattle.rules.specs.Refusals.{step}
@@ -48,10 +47,10 @@ stepOf text names at t = stepWith text at (played t (callAt text names at))
 
 -- Line after line from a place on, at most k, each played on the table that the one before left: what the steps give, in
 -- order, and the table at the end
-module _ {X : Type 0} (give : Step → List X) where
-  abbrev pub onto : List X → List X × Table → List X × Table
-  onto xs r = (xs ++ r .0, r .1)
+abbrev pub onto : {X : Type 0} → List X → List X × Table → List X × Table
+onto xs r = (xs ++ r .0, r .1)
 
+module _ {X : Type 0} (give : Step → List X) where
   module _ (text : List ℕ) (names : ℕ) where
     unfoldable pub playFrom : ℕ → ℕ → Table → List X × Table
     playFrom zero at t = ([], t)
@@ -71,13 +70,6 @@ recordBy s = s .entry
 
 abbrev pub roundOf : List ℕ → List (List ℕ)
 roundOf text = playAll lineBy text (loadOf text .table) .0
-
--- a record behind the first n bytes of a buffer, if it has room, and where it ends
-abbrev pub appended : List ℕ → ℕ → List ℕ → List ℕ
-appended out n entry = cond (leb (n + 16) (length out)) (paste out n entry 16) out
-
-abbrev pub appendedAt : List ℕ → ℕ → ℕ
-appendedAt out n = cond (leb (n + 16) (length out)) (n + 16) n
 
 -- the records of all calls from a table on that have room in `room` bytes, each as a whole
 abbrev pub listed : List ℕ → Table → ℕ → List ℕ

@@ -3,12 +3,13 @@ ghost use mathlib.Core.Path.{_≡_};
 ghost use Prim.Native.Nat.{ℕ};
 ghost use lib.ListN.{length, take};
 ghost use Rattle.rows.specs.Calls.{showBuffer};
-ghost use Rattle.print.specs.Lines.{callLine, printed, printedLength};
+ghost use Rattle.print.specs.Lines.{callLine};
 ghost use Rattle.rules.specs.Calls.{put};
 ghost use Rattle.rules.specs.Record.{filled};
 ghost use Rattle.monitor.specs.Calls.{reply};
 ghost use Rattle.round.specs.Played.{quiet, showing, unplayed, played};
-ghost use Rattle.round.specs.Round.{noLine, asLine, stepOf, listed, endedOf, appended, appendedAt};
+ghost use Rattle.round.specs.Round.{noLine, asLine, stepOf, listed, endedOf};
+ghost use Rattle.round.specs.Parts.{appended, appendedAt};
 use monitor::Reply;
 use monitor::Table;
 use rows::Asked;
@@ -76,10 +77,7 @@ fn unplayed(table: Table) -> Played
 fn put_front(table: Table, caller: u8, bytes: [u8; 255], n: usize) -> Reply
     ensures { λ r. ⌜ r ≡ reply table (put caller (take n bytes)) ⌝ }
 {
-    if n <= 255 {
-        return table.put(caller, &bytes[..n]);
-    }
-    table.put(caller, &bytes)
+    table.put(caller, text::front(&bytes, n))
 }
 
 // Plays the call of a row.
@@ -128,22 +126,12 @@ fn no_line() -> [u8; 162]
     [0u8; 162]
 }
 
-// Writes the line of a record and of the first n bytes of a buffer.
-fn line_into(entry: [u8; 16], buffer: [u8; 64], n: usize, out: &mut [u8]) -> usize
-    ensures { λ r. ⌜ (now (out .exit) ≡ printed (callLine entry (take n buffer)) (now (out .entry))) × (r ≡ printedLength (callLine entry (take n buffer)) (now (out .entry))) ⌝ }
-{
-    if n <= 64 {
-        return print::call_line(&entry, &buffer[..n], out);
-    }
-    print::call_line(&entry, &buffer, out)
-}
-
 // The line of a record and of the first n bytes of a buffer.
 fn line_of(entry: [u8; 16], buffer: [u8; 64], n: usize) -> Line
     ensures { λ r. ⌜ r ≡ asLine (callLine entry (take n buffer)) ⌝ }
 {
     let mut bytes = no_line();
-    let len = line_into(entry, buffer, n, &mut bytes);
+    let len = print::call_line(&entry, text::front(&buffer, n), &mut bytes);
     Line {
         bytes: bytes,
         len: len,

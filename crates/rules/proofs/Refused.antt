@@ -23,6 +23,10 @@ empty-either : (b : Bool) → cond {A = List ℕ} b [] [] ≡ []
 empty-either true = refl
 empty-either false = refl
 
+-- a filled buffer keeps its length
+pub filled-length : (part buf : List ℕ) → length part ≤ length buf → length (filled part buf) ≡ length buf
+filled-length part buf h = simp (length-append, length-drop) (omega arith)
+
 module _ {A : Labels} (T : Tables A) where
   all-listed : (gs : List (A .Group)) (a b : Slot A) (c : Call A) → allNumbers listed (refusals gs a b c) ≡ true
   all-listed gs a b (put i bs) = refl
@@ -53,10 +57,6 @@ module _ {A : Labels} (T : Tables A) where
   }
 
   -- ---- parts
-
-  -- a filled buffer keeps its length
-  filled-length : (part buf : List ℕ) → length part ≤ length buf → length (filled part buf) ≡ length buf
-  filled-length part buf h = simp (length-append, length-drop) (omega arith)
 
   -- an allowed show fits: 6 does not apply
   moved-fits : (t : T .Table) (c : Call A) (v : Outcome) → verdict T t c ≡ v

@@ -3,7 +3,7 @@ ghost use mathlib.Core.Path.{_≡_};
 ghost use Prim.Native.Nat.{ℕ, _+_, _*_, _<_, _≤_};
 ghost use mathlib.Core.List.{List, []};
 ghost use mathlib.Core.Option.{none, some};
-ghost use lib.ListN.{length};
+ghost use lib.ListN.{length, take, drop};
 ghost use Rattle.label.specs.Tags.{empty};
 ghost use Rattle.text.specs.Bytes.{eqBytes, indexOf, digitOf, decimalFrom, decimalOf, setFrom, setOf, pairsFrom, dataOf};
 ghost use Rattle.text.specs.Lines.{lineEnd, lineAt, nextLine, fieldsOf, hasName, hasNames, namesOnce, under};
@@ -49,6 +49,16 @@ pub fn same(a: &[u8], b: &[u8]) -> bool
         i += 1;
     }
     true
+}
+
+// The first n bytes; all of them where there are fewer.
+pub fn front<'a>(s: &'a [u8], n: usize) -> &'a [u8]
+    ensures { λ r. ⌜ now r ≡ take n (now (s .entry)) ⌝ }
+{
+    if n <= s.len() {
+        return &s[..n];
+    }
+    s
 }
 
 // The index of the first b, or the length where there is none.

@@ -1,4 +1,4 @@
-use mathlib.Core.Path.{_≡_, ap, _∙_}
+use mathlib.Core.Path.{_≡_, ap, ap₂, _∙_}
 use mathlib.Core.List.{List}
 use Prim.Native.Nat.{ℕ, _≤_}
 use native.Mathlib.Omega.{arith}
@@ -11,22 +11,29 @@ use Rattle.round.proofs.line_of.Tie as tie
 
 -- `round::line_of` meets its contract. Assumes nothing.
 
-slice-aggregate-line-into : tie.Need-slice-aggregate-line-into
-slice-aggregate-line-into c = search needs
+slice-aggregate-call-line : tie.Need-slice-aggregate-call-line
+slice-aggregate-call-line c = search needs
+
+slice-aggregate-front : tie.Need-slice-aggregate-front
+slice-aggregate-front c = search needs
+
+slice-aggregate-call-line-2 : tie.Need-slice-aggregate-call-line-2
+slice-aggregate-call-line-2 c = search needs
 
 returns : tie.Need-returns
 returns c =
     let w = c .before in
-    let n = w .before .before in
+    let f = w .before .before in
+    let n = f .before .before .before in
     let a = n .before .args in
-    let s = take (a .n) (a .buffer) in
-    let e : length (a .entry) ≡ 16 = search needs in
-    let b : length (a .buffer) ≡ 64 = search needs in
-    line-is (a .entry) s e (omega (arith, length-take (a .n) (a .buffer), b)) _ _
-    (w .line-into .ensures .0 ∙ ap (printed (callLine (a .entry) s)) (n .no-line .ensures))
-    (w .line-into .ensures .1 ∙ ap (printedLength (callLine (a .entry) s)) (n .no-line .ensures))
+    let s = take (a .n) (a .t2) in
+    let e : length (a .t1) ≡ 16 = search needs in
+    let b : length (a .t2) ≡ 64 = search needs in
+    line-is (a .t1) s e (omega (arith, length-take (a .n) (a .t2), b)) _ _
+    (w .call-line .ensures .0 ∙ ap₂ (λ (l out : List ℕ). printed (callLine (a .t1) l) out) (f .front .ensures) (n .no-line .ensures))
+    (w .call-line .ensures .1 ∙ ap₂ (λ (l out : List ℕ). printedLength (callLine (a .t1) l) out) (f .front .ensures) (n .no-line .ensures))
 
 pub line-of-spec : {M : Type 1} → statement M
 line-of-spec =
     tie.close
-    (tie.spec (λ _ _. tt) slice-aggregate-line-into (λ _ _. tt) returns)
+    (tie.spec (λ _ _. tt) slice-aggregate-call-line slice-aggregate-front (λ _ _. tt) slice-aggregate-call-line-2 (λ _ _. tt) returns)
