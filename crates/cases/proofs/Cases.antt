@@ -2,13 +2,13 @@
 -- Assumes nothing.
 use mathlib.Core.Path.{refl}
 use Rattle.rules.specs.Bounded.{allBelow}
-use Rattle.label.specs.Tags.{tagOf, setOf, sumOf, subsetIn, equalIn, unionIn, withIn, withoutIn, commonIn, bytesIn, empty, hasTag, subsetOf, equalOf, unionOf, withTag, withoutTag, commonOf, bytesOf}
+use Rattle.label.specs.Tags.{tagOf, setOf, sumOf, subsetIn, equalIn, unionIn, withIn, withoutIn, commonIn, bytesIn, empty, hasTag, subsetOf, equalOf, unionOf, withTag, withoutTag, commonOf, keepsTo, bytesOf}
 use Rattle.cases.specs.Cases.{CasesHold, RoundHolds}
 
 pub cases-hold : CasesHold
-unfolding allBelow tagOf setOf sumOf subsetIn equalIn unionIn withIn withoutIn commonIn bytesIn empty hasTag subsetOf equalOf unionOf withTag withoutTag commonOf bytesOf
+unfolding allBelow tagOf setOf sumOf subsetIn equalIn unionIn withIn withoutIn commonIn bytesIn empty hasTag subsetOf equalOf unionOf withTag withoutTag commonOf keepsTo bytesOf
 cases-hold = refl
 
 pub round-holds : RoundHolds
-unfolding allBelow tagOf setOf sumOf subsetIn equalIn unionIn withIn withoutIn commonIn bytesIn empty hasTag subsetOf equalOf unionOf withTag withoutTag commonOf bytesOf
+unfolding allBelow tagOf setOf sumOf subsetIn equalIn unionIn withIn withoutIn commonIn bytesIn empty hasTag subsetOf equalOf unionOf withTag withoutTag commonOf keepsTo bytesOf
 round-holds = record { records = refl; shown = refl }

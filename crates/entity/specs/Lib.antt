@@ -1,2 +1,1 @@
 pub mod Entity
-pub mod Block

@@ -22,7 +22,7 @@ enum Done {
 struct Step {
     done: Done,
     table: Table,
-    entry: [u8; 16],
+    entry: [u8; records::SIZE],
 }
 
 // Bytes. A read beyond the end gives 0, a write there does nothing, and a front longer than the whole is the whole.
@@ -301,7 +301,7 @@ fn spell(s: &[u8], out: &mut [u8]) -> usize {
 fn print_digits(s: &[u8]) {
     let mut out = digit_buffer();
     let n = spell(s, &mut out);
-    io::write_all(STDOUT_FILENO, text::front(&out, n));
+    io::write_all(STDOUT_FILENO, handing::front(&out, n));
 }
 
 fn print_field(s: &[u8]) {
@@ -317,27 +317,27 @@ fn print_digest(table: Table) {
     let mut out = io::buffer();
     let n = push_table(&mut out, table);
     io::write_all(STDOUT_FILENO, b" ");
-    io::print_hex(STDOUT_FILENO, digest(text::front(&out, n)), 16);
+    io::print_hex(STDOUT_FILENO, digest(handing::front(&out, n)), 16);
     io::write_all(STDOUT_FILENO, b"\n");
 }
 
 fn print_dump(table: Table) {
     let mut out = io::buffer();
     let n = push_table(&mut out, table);
-    print_digits(text::front(&out, n));
+    print_digits(handing::front(&out, n));
     io::write_all(STDOUT_FILENO, b"\n");
 }
 
 // The part, the lent buffer that it is the front of, and the digest.
 fn print_rest(lent: &[u8], part: usize, table: Table) {
-    print_field(text::front(lent, part));
+    print_field(handing::front(lent, part));
     print_field(lent);
     print_digest(table);
 }
 
 // What a line that is no call comes to.
 fn no_call(done: Done, table: Table) -> Step {
-    let entry = [0u8; 16];
+    let entry = [0u8; records::SIZE];
     Step {
         done: done,
         table: table,
@@ -351,7 +351,7 @@ fn called(r: Reply, lent: &[u8]) -> Step {
     let answer = r.answer;
     let outcome = answer.outcome;
     let entry = answer.entry;
-    io::print_decimal(STDOUT_FILENO, wide(monitor::number_of(outcome)));
+    io::print_decimal(STDOUT_FILENO, wide(records::number_of(outcome)));
     print_field(&entry);
     print_rest(lent, entry[4] as usize, table);
     Step {
@@ -472,7 +472,7 @@ fn show_filled(table: Table, caller: u8, n: usize, b: u8) -> Step {
     let mut room = io::large_buffer();
     fill(&mut room, n, b);
     let r = show_front(table, caller, &mut room, n);
-    called(r, text::front(&room, n))
+    called(r, handing::front(&room, n))
 }
 
 fn show(table: Table, row: &[u8]) -> Step {
@@ -493,7 +493,7 @@ fn audit_front(table: Table, caller: u8, list: &[u8], room: &mut [u8], n: usize)
 }
 
 fn print_audit(v: Outcome, lent: &[u8], part: usize, table: Table) {
-    io::print_decimal(STDOUT_FILENO, wide(monitor::number_of(v)));
+    io::print_decimal(STDOUT_FILENO, wide(records::number_of(v)));
     io::write_all(STDOUT_FILENO, b" -");
     print_rest(lent, part, table);
 }
@@ -503,7 +503,7 @@ fn audit_filled(table: Table, caller: u8, list: &[u8], n: usize, b: u8) {
     fill(&mut room, n, b);
     let part = table.audit_len(caller, list, n);
     let v = audit_front(table, caller, list, &mut room, n);
-    print_audit(v, text::front(&room, n), part, table);
+    print_audit(v, handing::front(&room, n), part, table);
 }
 
 fn audit(table: Table, row: &[u8], list: &[u8]) -> Step {
@@ -567,7 +567,7 @@ fn with_data(table: Table, row: &[u8]) -> Step {
     if is_data(w) {
         let mut room = io::large_buffer();
         let n = hex_into(w, &mut room);
-        return given(table, row, text::front(&room, n));
+        return given(table, row, handing::front(&room, n));
     }
     no_call(Done::Bad, table)
 }
@@ -671,7 +671,7 @@ fn is_bad(done: Done) -> bool {
 }
 
 // Keeps the record of a call behind those kept before; answers how many bytes are kept.
-fn keep(done: Done, entry: [u8; 16], records: &mut [u8], kept: usize) -> usize {
+fn keep(done: Done, entry: [u8; records::SIZE], records: &mut [u8], kept: usize) -> usize {
     match done {
         Done::Bad => kept,
         Done::Quiet => kept,
@@ -694,7 +694,11 @@ fn run(script: &[u8], records: &mut [u8]) {
     while 0 < rest.len() {
         line += 1;
         let end = text::index_of(rest, 10);
-        let s = command(table, text::front(rest, end), text::front(records, kept));
+        let s = command(
+            table,
+            handing::front(rest, end),
+            handing::front(records, kept),
+        );
         let done = s.done;
         let entry = s.entry;
         if is_bad(done) {
@@ -715,5 +719,5 @@ fn main() {
     let mut script = io::large_buffer();
     let mut records = io::large_buffer();
     let n = io::read_full(STDIN_FILENO, &mut script);
-    run(text::front(&script, n), &mut records);
+    run(handing::front(&script, n), &mut records);
 }

@@ -3,12 +3,12 @@
 use mathlib.Core.Path.{_≡_, refl, ap, sym, _∙_}
 use mathlib.Core.Logic.{_≢_}
 use mathlib.Core.Bool.{Bool, true, false, cond}
-use Prim.Native.Nat.{ℕ, _*_, _%_, _^_, _≤_, _<_, min, max}
+use Prim.Native.Nat.{ℕ, _*_, _%_, _^_, _≤_, _<_}
 use native.Mathlib.Nat.{zero-div}
 use native.Mathlib.Omega.{arith}
 use lib.Dec.{eqb}
 use borrow.Author.Tests.{eqb-true, eqb-false, eq-eqb, ne-eqb}
-use Rattle.label.specs.Tags.{tagOf, sumOf, subsetIn, equalIn, unionIn, withIn, withoutIn, commonIn, bytesIn, fromBytesIn}
+use Rattle.label.specs.Tags.{tagOf, subsetIn, equalIn, unionIn, withIn, withoutIn, commonIn, bytesIn, fromBytesIn}
 use Rattle.label.proofs.Laws.{tag-lt, sum-mono, union-tag, with-tag, without-tag, subset-tag, subset-of-tags, subset-ext, equal-tag, equal-of-tags}
 use Rattle.label.proofs.Bytes.{round-tag}
 

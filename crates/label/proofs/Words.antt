@@ -1,15 +1,23 @@
 -- The 64-bit labels have the laws of labels.
 -- Assumes nothing.
-use Prim.Native.Nat.{ℕ, _<_}
+use Prim.Native.Nat.{ℕ, _≤_, _<_}
+use mathlib.Core.Path.{_≡_}
+use mathlib.Core.Bool.{true}
+use native.Mathlib.Omega.{arith}
+use lib.Dec.{leb}
+use borrow.Author.Tests.{leb-true, le-leb}
 use Rattle.rules.specs.Laws.{OrderLaws, TagLaws}
-use Rattle.label.specs.Tags.{empty, hasTag, subsetOf, equalOf, unionOf, withTag, withoutTag, commonOf, bytesOf, fromBytes}
+use Rattle.label.specs.Tags.{commonIn, empty, hasTag, subsetOf, equalOf, unionOf, withTag, withoutTag, commonOf, keepsTo, bytesOf, fromBytes}
 use Rattle.label.specs.Words.{words}
 use Rattle.label.proofs.Bytes.{bytes-length}
 use Rattle.label.proofs.Order.{subset-refl, subset-trans, empty-subset, union-left, union-right, union-least, with-subset, without-subset, equal-refl, common-mono, round-subset}
 use Rattle.label.proofs.Order.{empty-not, subset-has, equal-has, with-has, without-not, with-not, without-has}
 
+fewer : (m n : ℕ) → m ≤ n → leb n 1 ≡ true → leb m 1 ≡ true
+fewer m n h k = le-leb m 1 (omega (arith, leb-true n 1 k))
+
 pub words-order : OrderLaws words
-unfolding empty hasTag subsetOf equalOf unionOf withTag withoutTag commonOf bytesOf fromBytes
+unfolding commonIn empty hasTag subsetOf equalOf unionOf withTag withoutTag commonOf keepsTo bytesOf fromBytes
 words-order = record {
   below-refl = λ a. subset-refl 64 (a .bits);
   below-trans = λ a b c. subset-trans 64 (a .bits) (b .bits) (c .bits);
@@ -20,9 +28,9 @@ words-order = record {
   insert-below = λ p a r c. with-subset 64 p (a .bits) (r .bits) (c .bits);
   remove-below = λ p a. without-subset 64 p (a .bits);
   same-refl = λ a. equal-refl 64 (a .bits);
-  common-grows = λ g a b. common-mono 64 (g .bits) (a .bits) (b .bits);
-  bytes-length = λ a. bytes-length 8 (a .bits);
-  bytes-below = λ a b. round-subset 8 (a .bits) (b .bits);
+  keeps-less = λ g a b h k. fewer (commonIn 64 (a .bits) (g .bits)) (commonIn 64 (b .bits) (g .bits)) (common-mono 64 (g .bits) (a .bits) (b .bits) h) k;
+  tail-length = λ p a. bytes-length 8 (a .bits);
+  entry-shows = λ k i j n m s p a b. round-subset 8 (a .bits) (b .bits);
 }
 
 module _ (t : ℕ) (l : t < 64) where

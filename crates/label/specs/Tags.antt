@@ -96,6 +96,10 @@ withDigit a d = labelOf (digitIn 64 (a .bits) d)
 unfoldable pub commonOf : Label → Label → ℕ
 commonOf a b = commonIn 64 (a .bits) (b .bits)
 
+-- An entity keeps to a group when the label of all that it holds has at most one tag in common with it
+unfoldable pub keepsTo : Label → Label → Bool
+keepsTo group a = leb (commonOf a group) 1
+
 unfoldable pub bytesOf : Label → List ℕ
 bytesOf a = bytesIn 8 (a .bits)
 

@@ -1,6 +1,7 @@
 // A label: a set of tags 0 to 63, tag n at weight 2 to the n.
 ghost use mathlib.Core.Path.{_≡_};
-ghost use Rattle.label.specs.Tags.{empty, hasTag, subsetOf, equalOf, isEmpty, unionOf, withTag, withoutTag, withDigit, commonOf, bytesOf, fromBytes};
+ghost use mathlib.Core.Bool.{cond};
+ghost use Rattle.label.specs.Tags.{empty, hasTag, subsetOf, equalOf, isEmpty, unionOf, withTag, withoutTag, withDigit, commonOf, keepsTo, bytesOf, fromBytes};
 
 pub struct Label {
     pub bits: u64,
@@ -90,6 +91,20 @@ pub fn common(l: Label, group: Label) -> u32
     ensures { λ r. ⌜ r ≡ commonOf l group ⌝ }
 {
     u64::count_ones(l.bits & group.bits)
+}
+
+// Whether who holds all of l keeps to a conflict group: it has at most one tag of it.
+pub fn keeps(group: Label, l: Label) -> bool
+    ensures { λ r. ⌜ r ≡ keepsTo group l ⌝ }
+{
+    common(l, group) <= 1
+}
+
+// The first label where the test holds, else the second.
+pub fn choose(test: bool, a: Label, b: Label) -> Label
+    ensures { λ r. ⌜ r ≡ cond test a b ⌝ }
+{
+    if test { a } else { b }
 }
 
 // The tags as eight bytes, tags 0 to 7 in the first.

@@ -8,60 +8,58 @@ use Prim.Native.Nat.{ℕ, zero, suc, _+_, _-_, _*_, _≤_, _<_}
 use native.Mathlib.Omega.{arith}
 use lib.Dec.{eqb, leb, ltb}
 use lib.ListN.{length, getD, take, drop, replicate, length-append, length-replicate, getD-replicate}
-use borrow.Author.Tests.{eq-eqb, eqb-true, le-leb, leb-true, ltb-true, ltb-false, lt-ltb}
-use Rattle.rules.specs.Bounded.{allBelow}
+use borrow.Author.Tests.{eq-eqb, eqb-true, le-leb, ltb-true, ltb-false, lt-ltb}
 use Rattle.rules.specs.Table.{Slot, isFree, slotKeeps, slotFormed, keepsAll, partsFormed, accepted}
-use Rattle.rules.proofs.Facts.{and-left, and-right, both, either}
-use Rattle.rules.proofs.Bounded.{all-at, all-of}
+use Rattle.rules.proofs.Facts.{and-left, and-right, both}
+use Rattle.rules.proofs.Bounded.{all-of}
 use Rattle.label.specs.declared.Label.{Label}
-use Rattle.label.specs.Tags.{empty, equalOf, equalIn}
+use Rattle.label.specs.Tags.{empty, equalOf}
 use Rattle.label.specs.Words.{words}
 use Rattle.label.proofs.Order.{equal-refl}
 use Rattle.entity.specs.declared.Entity.{Entity}
-use Rattle.entity.specs.Entity.{freeEntity, rightsOf}
-use Rattle.entity.specs.Block.{allZero, noBlock, padded, blockAt}
-use Rattle.entity.proofs.Lists.{drop-replicate}
-use Rattle.entity.proofs.Padding.{all-zero}
+use Rattle.entity.specs.Entity.{freeEntity, rightsOf, bare}
+use Rattle.block.specs.Block.{allZero, padded, blockAt}
+use Rattle.block.proofs.Lists.{drop-replicate}
 use Rattle.monitor.specs.declared.Table.{Table}
 use Rattle.monitor.specs.Table.{entityAt, placeFormed, formed, groupsOf, withSlot, hub, noContent, emptyTable}
 use Rattle.monitor.proofs.Form.{hub-laws}
-use Rattle.text.specs.Bytes.{setOf}
-use Rattle.text.specs.Lines.{Lines, done, cut, line, fieldsOf}
-use Rattle.rows.specs.Entities.{Entry, entityFormed, entityOf}
-use Rattle.load.specs.declared.Filled.{Filled}
+use Rattle.text.specs.Bytes.{hexSetOf}
+use Rattle.text.specs.Lines.{Lines, done, cut, line, fieldsIn}
+use Rattle.rows.specs.Entities.{EntitySaid, entityFormed, entityOf}
+use Rattle.load.specs.declared.Entities.{Entities}
 use Rattle.load.specs.declared.Groups.{Groups}
 use Rattle.load.specs.declared.Verdict.{Verdict}
 use Rattle.load.specs.declared.Verdict.the-variants.{Accepted, Refused}
 use Rattle.load.specs.Blocks.{start, badLine, namesAt, rowsAt, groupsAt}
-use Rattle.load.specs.Tables.{fill, breaking, breakingIn, groupsFrom, grouped, withGroups, filled, groupsIn, tableIn}
+use Rattle.load.specs.Tables.{fill, breaking, breakingIn, groupsFrom, grouped, withGroups, entitiesIn, groupsIn, tableIn}
 use Rattle.load.specs.Load.{refuseAt, verdictOf, onAccepted, loadOf}
 use Rattle.load.specs.Claims.{LoadsAccepted}
 use Rattle.load.proofs.Tables.{fill-none, fill-twice, fill-step, breaking-here, breaking-step, groups-none, groups-full, groups-step}
-use Rattle.load.proofs.Entries.{Sound, entry-sound}
+use Rattle.load.proofs.EntityLines.{Sound, entry-sound}
 
--- ---- tables whose entities keep to given groups
+-- ---- tables whose entities keep to onSome groups
 
 pub record Keeping (gs : List Label) (t : Table) : Type 0 where
   pub form : formed t ≡ true
   pub keeps : (i : ℕ) → i < 32 → slotKeeps gs (hub .slot t i) ≡ true
 
 -- the slot of an entry
-abbrev slotIn : Entry → Slot words
+abbrev slotIn : EntitySaid → Slot words
 slotIn y = record { kind = y .entity .kind; sec = y .entity .sec; int = y .entity .int; rights = rightsOf (y .entity); content = y .content }
 
 -- an entry is stored as the rules store it
-stored : (t : Table) (y : Entry) → y .entity .len ≡ length (y .content)
+stored : (t : Table) (y : EntitySaid) → y .entity .len ≡ length (y .content)
     → withSlot t (y .slot) (y .entity) (padded (y .content)) ≡ hub .store t (y .slot) (slotIn y)
 stored t y e = ap (λ (n : ℕ). withSlot t (y .slot) (record { kind = y .entity .kind; sec = y .entity .sec; int = y .entity .int; sa = y .entity .sa; sd = y .entity .sd; ia = y .entity .ia; id = y .entity .id; len = n }) (padded (y .content))) e
 
-slot-formed : (y : Entry) → Sound y → slotFormed {A = words} (slotIn y) ≡ true
+slot-formed : (y : EntitySaid) → Sound y → slotFormed {A = words} (slotIn y) ≡ true
 unfolding entityFormed
 slot-formed y s =
     let e = y .entity in
-    ap (λ (n : ℕ). partsFormed {A = words} (e .kind) (e .sec) (e .int) (rightsOf e) n) (sym (s .len)) ∙ and-right (not (isFree (e .kind))) _ (s .formed)
+    ap (λ (n : ℕ). partsFormed (bare e) n) (sym (s .len)) ∙ and-right (not (isFree (e .kind))) _ (s .formed)
 
-keep-more : (gs : List Label) (t : Table) (y : Entry) → Keeping gs t → Sound y
-    → keepsAll {A = words} gs (y .entity .sec) (y .entity .int) (rightsOf (y .entity)) ≡ true
+keep-more : (gs : List Label) (t : Table) (y : EntitySaid) → Keeping gs t → Sound y
+    → keepsAll gs (bare (y .entity)) ≡ true
     → Keeping gs (withSlot t (y .slot) (y .entity) (padded (y .content)))
 keep-more gs t y k s h = rw (stored t y (s .len)) (record {
   form = hub-laws .store-formed t (y .slot) (slotIn y) (k .form) (s .slot) f;
@@ -84,19 +82,19 @@ keep-more gs t y k s h = rw (stored t y (s .len)) (record {
 module _ (hs : List (List ℕ)) (gs : List Label) where
   module _ (l : List ℕ) (ls : Lines) (n m : ℕ) (t : Table) (p : 0 < m) (k : Keeping gs t) (b : breaking hs gs m (line l ls) ≡ 0)
       (ih : (u : Table) → Keeping gs u → breaking hs gs (m + 1) ls ≡ 0 → Keeping gs (fill hs (n + 1) u ls .table)) where
-    placed : (y : Entry) → entityOf hs (fieldsOf l) ≡ some y → isFree (entityAt t (y .slot) .kind) ≡ true
-        → (c : Bool) → keepsAll {A = words} gs (y .entity .sec) (y .entity .int) (rightsOf (y .entity)) ≡ c → Keeping gs (fill hs n t (line l ls) .table)
+    placed : (y : EntitySaid) → entityOf hs (fieldsIn l) ≡ some y → isFree (entityAt t (y .slot) .kind) ≡ true
+        → (c : Bool) → keepsAll gs (bare (y .entity)) ≡ c → Keeping gs (fill hs n t (line l ls) .table)
     placed y e f true h =
-        subst (λ (r : Filled). Keeping gs (r .table)) (sym (fill-step hs n t refl y e f))
-        (ih (withSlot t (y .slot) (y .entity) (padded (y .content))) (keep-more gs t y k (entry-sound hs (fieldsOf l) y e) h) (sym (breaking-step hs gs m refl y e h) ∙ b))
+        subst (λ (r : Entities). Keeping gs (r .table)) (sym (fill-step hs n t refl y e f))
+        (ih (withSlot t (y .slot) (y .entity) (padded (y .content))) (keep-more gs t y k (entry-sound hs (fieldsIn l) y e) h) (sym (breaking-step hs gs m refl y e h) ∙ b))
     placed y e f false h = let q = sym (breaking-here hs gs m refl y e h) ∙ b in absurd (omega arith)
 
-    named : (y : Entry) → entityOf hs (fieldsOf l) ≡ some y → (c : Bool) → isFree (entityAt t (y .slot) .kind) ≡ c → Keeping gs (fill hs n t (line l ls) .table)
-    named y e true f = placed y e f (keepsAll {A = words} gs (y .entity .sec) (y .entity .int) (rightsOf (y .entity))) refl
-    named y e false f = subst (λ (r : Filled). Keeping gs (r .table)) (sym (fill-twice hs n t refl y e f)) k
+    named : (y : EntitySaid) → entityOf hs (fieldsIn l) ≡ some y → (c : Bool) → isFree (entityAt t (y .slot) .kind) ≡ c → Keeping gs (fill hs n t (line l ls) .table)
+    named y e true f = placed y e f (keepsAll gs (bare (y .entity))) refl
+    named y e false f = subst (λ (r : Entities). Keeping gs (r .table)) (sym (fill-twice hs n t refl y e f)) k
 
-    row : (o : Option Entry) → entityOf hs (fieldsOf l) ≡ o → Keeping gs (fill hs n t (line l ls) .table)
-    row none e = subst (λ (r : Filled). Keeping gs (r .table)) (sym (fill-none hs n t refl e)) k
+    row : (o : Option EntitySaid) → entityOf hs (fieldsIn l) ≡ o → Keeping gs (fill hs n t (line l ls) .table)
+    row none e = subst (λ (r : Entities). Keeping gs (r .table)) (sym (fill-none hs n t refl e)) k
     row (some y) e = named y e (isFree (entityAt t (y .slot) .kind)) refl
 
   fill-keeps : (ls : Lines) (n m : ℕ) (t : Table) → 0 < m → Keeping gs t → breaking hs gs m ls ≡ 0 → Keeping gs (fill hs n t ls .table)
@@ -104,16 +102,16 @@ module _ (hs : List (List ℕ)) (gs : List Label) where
   fill-keeps done n m t p k b = k
   fill-keeps cut n m t p k b = k
   fill-keeps (line l ls) n m t p k b =
-      row l ls n m t p k b (λ u j d. fill-keeps ls (n + 1) (m + 1) u (omega arith) j d) (entityOf hs (fieldsOf l)) refl
+      row l ls n m t p k b (λ u j d. fill-keeps ls (n + 1) (m + 1) u (omega arith) j d) (entityOf hs (fieldsIn l)) refl
 
 -- ---- groups: at most 8
 
 module _ (gs : List Label) (l : List ℕ) (ls : Lines) (h : length gs ≤ 8) (ih : (g : Label) → length gs < 8 → length (groupsFrom (gs ++ (g ∷ [])) ls) ≤ 8) where
-  few-of : (g : Label) → setOf l ≡ some g → (b : Bool) → ltb (length gs) 8 ≡ b → length (groupsFrom gs (line l ls)) ≤ 8
+  few-of : (g : Label) → hexSetOf l ≡ some g → (b : Bool) → ltb (length gs) 8 ≡ b → length (groupsFrom gs (line l ls)) ≤ 8
   few-of g e true f = rw (groups-step gs {ls = ls} refl g e (ltb-true (length gs) 8 f)) (ih g (ltb-true (length gs) 8 f))
   few-of g e false f = rw (groups-full gs {ls = ls} refl g e (ltb-false (length gs) 8 f)) h
 
-  few-row : (o : Option Label) → setOf l ≡ o → length (groupsFrom gs (line l ls)) ≤ 8
+  few-row : (o : Option Label) → hexSetOf l ≡ o → length (groupsFrom gs (line l ls)) ≤ 8
   few-row none e = rw (groups-none gs {ls = ls} refl e) h
   few-row (some g) e = few-of g e (ltb (length gs) 8) refl
 
@@ -121,7 +119,7 @@ few : (ls : Lines) (gs : List Label) → length gs ≤ 8 → length (groupsFrom 
 unfolding groupsFrom
 few done gs h = h
 few cut gs h = h
-few (line l ls) gs h = few-row gs l ls h (λ g k. few ls (gs ++ (g ∷ [])) (omega (arith, length-append gs (g ∷ [])))) (setOf l) refl
+few (line l ls) gs h = few-row gs l ls h (λ g k. few ls (gs ++ (g ∷ [])) (omega (arith, length-append gs (g ∷ [])))) (hexSetOf l) refl
 
 count-few : (gs : List Label) → length gs ≤ 8 → grouped gs .count ≤ 8
 unfolding grouped
@@ -152,7 +150,7 @@ empty-entity : (k : ℕ) → k < 32 → getD (emptyTable .entities) k freeEntity
 unfolding emptyTable
 empty-entity k h = getD-replicate 32 k freeEntity freeEntity h
 
-free-formed : partsFormed {A = words} (freeEntity .kind) (freeEntity .sec) (freeEntity .int) (rightsOf freeEntity) (freeEntity .len) ≡ true
+free-formed : partsFormed (bare freeEntity) (freeEntity .len) ≡ true
 unfolding empty equalOf
 free-formed = rw (equal-refl 64 0)
 
@@ -180,7 +178,7 @@ empty-place : (k : ℕ) → k < 32 → placeFormed emptyTable k ≡ true
 unfolding placeFormed
 empty-place k h =
     ap₂
-    (λ (x : Entity) (c : List ℕ). partsFormed {A = words} (x .kind) (x .sec) (x .int) (rightsOf x) (x .len) && allZero (drop (x .len) (blockAt c k)))
+    (λ (x : Entity) (c : List ℕ). partsFormed (bare x) (x .len) && allZero (drop (x .len) (blockAt c k)))
     (empty-at k h)
     empty-content
     ∙ both _ _ free-formed (empty-block k h)
@@ -195,7 +193,7 @@ empty-form =
 empty-keeping : (gs : List Label) → Keeping gs emptyTable
 empty-keeping gs = record {
   form = empty-form;
-  keeps = λ i l. ap (λ (x : Entity). isFree (x .kind) || keepsAll {A = words} gs (x .sec) (x .int) (rightsOf x)) (empty-entity i l);
+  keeps = λ i l. ap (λ (x : Entity). isFree (x .kind) || keepsAll gs (bare x)) (empty-entity i l);
 }
 
 keeping-accepted : (t : Table) → Keeping (groupsOf t) t → accepted hub t ≡ true
@@ -216,25 +214,25 @@ module _ (text : List ℕ) where
   unfolding verdictOf
   breaks-none e = go (ltb 65535 (length text)) e
     where
-      go : (b : Bool) → cond b (Refused 14 0) (refuseAt 15 (badLine text) (refuseAt 16 (filled text .twice) (refuseAt 17 (breakingIn text (tableIn text)) Accepted))) ≡ Accepted → breakingIn text (tableIn text) ≡ 0
+      go : (b : Bool) → cond b (Refused 14 0) (refuseAt 15 (badLine text) (refuseAt 16 (entitiesIn text .twice) (refuseAt 17 (breakingIn text (tableIn text)) Accepted))) ≡ Accepted → breakingIn text (tableIn text) ≡ 0
       go true q = let z : _≡_ {A = ℕ} 0 1 = cc in absurd (omega arith)
-      go false q = passed 17 _ Accepted (passed 16 (filled text .twice) _ (passed 15 (badLine text) _ q .1) .1) .0
+      go false q = passed 17 _ Accepted (passed 16 (entitiesIn text .twice) _ (passed 15 (badLine text) _ q .1) .1) .0
 
   -- no line of an accepted text is bad
   pub bad-none : verdictOf text ≡ Accepted → badLine text ≡ 0
   unfolding verdictOf
   bad-none e = go (ltb 65535 (length text)) e
     where
-      go : (b : Bool) → cond b (Refused 14 0) (refuseAt 15 (badLine text) (refuseAt 16 (filled text .twice) (refuseAt 17 (breakingIn text (tableIn text)) Accepted))) ≡ Accepted → badLine text ≡ 0
+      go : (b : Bool) → cond b (Refused 14 0) (refuseAt 15 (badLine text) (refuseAt 16 (entitiesIn text .twice) (refuseAt 17 (breakingIn text (tableIn text)) Accepted))) ≡ Accepted → badLine text ≡ 0
       go true q = let z : _≡_ {A = ℕ} 0 1 = cc in absurd (omega arith)
       go false q = passed 15 (badLine text) _ q .0
 
   table-accepted : breakingIn text (tableIn text) ≡ 0 → accepted hub (tableIn text) ≡ true
-  unfolding tableIn filled groupsIn breakingIn
+  unfolding tableIn entitiesIn groupsIn breakingIn
   table-accepted b =
       let gs = groupsOf (tableIn text) in
       keeping-accepted (tableIn text)
-      (keep-groups gs (filled text .table) (groupsIn text) (count-few _ (few (rowsAt text (groupsAt text)) [] (omega arith)))
+      (keep-groups gs (entitiesIn text .table) (groupsIn text) (count-few _ (few (rowsAt text (groupsAt text)) [] (omega arith)))
       (fill-keeps (namesAt text start) gs (rowsAt text start) 2 2 emptyTable (omega arith) (empty-keeping gs) b))
 
 pub loads-accepted : LoadsAccepted

@@ -1,13 +1,13 @@
 -- What the definitions of loading say at one line.
 -- Assumes nothing.
-use mathlib.Core.Path.{_≡_, refl, sym, ap, ap₂, _∙_}
-use mathlib.Core.Bool.{Bool, true, false, cond, not, _&&_}
-use mathlib.Core.List.{List, [], _∷_, _++_}
+use mathlib.Core.Path.{_≡_, refl, sym, ap, _∙_}
+use mathlib.Core.Bool.{Bool, true, false}
+use mathlib.Core.List.{List, [], _∷_}
 use mathlib.Core.Option.{Option, none, some}
 use Prim.Native.Nat.{ℕ, _+_, _-_, _≤_, _<_}
 use native.Mathlib.Omega.{arith}
-use lib.Dec.{eqb, ltb}
-use lib.ListN.{length, take, drop, length-drop}
+use lib.Dec.{ltb}
+use lib.ListN.{length, drop, length-drop}
 use lib.Seq.{length-take-le}
 use borrow.Author.Tests.{eq-eqb, ne-eqb, lt-ltb, le-ltb, ltb-true, ltb-false}
 use Rattle.label.specs.declared.Label.{Label}
@@ -16,15 +16,13 @@ use Rattle.text.specs.declared.Tags.the-variants as Tags
 use Rattle.text.specs.Lines.{Lines, done, cut, line, lineEnd, lineAt, nextLine, namesOnce}
 use Rattle.text.specs.Answers.{asTags}
 use Rattle.text.proofs.Laws.{Over, line-ends, line-part, next-whole, next-none}
-use Rattle.rows.specs.Entities.{Entry, asEntityRow}
+use Rattle.rows.specs.Entities.{EntitySaid, asEntityRow}
 use Rattle.rows.specs.declared.Placed.the-variants as Placed
 use Rattle.rows.specs.declared.EntityRow.{EntityRow}
 use Rattle.entity.specs.declared.Entity.{Entity}
-use Rattle.rules.specs.Calls.{Call, put, show, send, fetch, addTag, dropTag, create, release, hand}
-use Rattle.label.specs.Words.{words}
-use Rattle.rows.specs.Calls.{asCallRow, asAsked}
-use Rattle.rows.specs.declared.Asked.{Asked}
-use Rattle.rows.specs.declared.Asked.the-variants as Asked
+use Rattle.rules.specs.declared.Call.{Call as Named}
+use Rattle.rows.specs.Calls.{CallSaid, asCallRow}
+use Rattle.rows.specs.declared.CallRead.the-variants as CallRead
 use Rattle.rows.specs.declared.CallRow.{CallRow}
 use Rattle.load.specs.declared.Place.{Place}
 use Rattle.load.specs.Blocks.{bytesPast, linesPast, rowsBad, blockBad, namesAt, rowsAt, isSome}
@@ -136,11 +134,11 @@ module _ (names : List (List ℕ)) (good : List (List ℕ) → ℕ → List ℕ 
 
 -- ---- whether a row says anything
 
-pub entity-some : (r : EntityRow) (k : ℕ) (x : Entity) (o : Option Entry) → r ≡ asEntityRow o → r .placed ≡ Placed.At k x → isSome o ≡ true
+pub entity-some : (r : EntityRow) (k : ℕ) (x : Entity) (o : Option EntitySaid) → r ≡ asEntityRow o → r .placed ≡ Placed.At k x → isSome o ≡ true
 entity-some r k x none e f = let q = ap (λ (y : EntityRow). y .placed) e in cc
 entity-some r k x (some y) e f = refl
 
-pub entity-none : (r : EntityRow) (o : Option Entry) → r ≡ asEntityRow o → r .placed ≡ Placed.Bad → isSome o ≡ false
+pub entity-none : (r : EntityRow) (o : Option EntitySaid) → r ≡ asEntityRow o → r .placed ≡ Placed.Bad → isSome o ≡ false
 entity-none r none e f = refl
 entity-none r (some y) e f = let q = ap (λ (z : EntityRow). z .placed) e in cc
 
@@ -152,33 +150,10 @@ pub set-none : {r : Tags} (o : Option Label) → r ≡ asTags o → r ≡ Tags.B
 set-none none e f = refl
 set-none (some m) e f = cc
 
-abbrev bad : Asked → Bool
-bad (Asked.Put i n) = false
-bad (Asked.Show i) = false
-bad (Asked.Send i j) = false
-bad (Asked.Fetch i j) = false
-bad (Asked.Add i n p) = false
-bad (Asked.Drop i n p) = false
-bad (Asked.Create i j n) = false
-bad (Asked.Release i j) = false
-bad (Asked.Hand i j n p) = false
-bad Asked.Bad = true
+pub call-some : (r : CallRow) (c : Named) (o : Option CallSaid) → r ≡ asCallRow o → r .read ≡ CallRead.Call c → isSome o ≡ true
+call-some r c none e f = let q = ap (λ (x : CallRow). x .read) e in cc
+call-some r c (some y) e f = refl
 
-pub call-some : (r : CallRow) (a : Asked) (o : Option (Call words)) → bad a ≡ false → r ≡ asCallRow o → r .asked ≡ a → isSome o ≡ true
-call-some r a none b e f = sym b ∙ ap bad (sym f ∙ ap (λ (x : CallRow). x .asked) e)
-call-some r a (some y) b e f = refl
-
-good : (c : Call words) → bad (asAsked c) ≡ false
-good (put i bs) = refl
-good (show i bs) = refl
-good (send i j) = refl
-good (fetch i j) = refl
-good (addTag i n p) = refl
-good (dropTag i n p) = refl
-good (create i j n) = refl
-good (release i j) = refl
-good (hand i j n p) = refl
-
-pub call-none : (r : CallRow) (o : Option (Call words)) → r ≡ asCallRow o → r .asked ≡ Asked.Bad → isSome o ≡ false
+pub call-none : (r : CallRow) (o : Option CallSaid) → r ≡ asCallRow o → r .read ≡ CallRead.Bad → isSome o ≡ false
 call-none r none e f = refl
-call-none r (some c) e f = ap bad (sym f ∙ ap (λ (x : CallRow). x .asked) e) ∙ good c
+call-none r (some y) e f = let q = ap (λ (x : CallRow). x .read) e in cc

@@ -1,5 +1,5 @@
 pub mod Laws
 pub mod Tables
 pub mod Verdicts
-pub mod Entries
+pub mod EntityLines
 pub mod Accepted

@@ -1,48 +1,45 @@
 -- What the definitions of the entities and groups of a text say at one line.
 -- Assumes nothing.
-use mathlib.Core.Path.{_≡_, refl, sym, ap, ap₂, _∙_}
+use mathlib.Core.Path.{_≡_, refl, ap, _∙_}
 use mathlib.Core.Bool.{Bool, true, false, cond}
 use mathlib.Core.List.{List, [], _∷_, _++_, append-assoc}
 use mathlib.Core.Option.{Option, none, some}
 use Prim.Native.Nat.{ℕ, suc, _+_, _-_, _≤_, _<_}
 use native.Mathlib.Omega.{arith}
-use lib.Dec.{ltb}
 use lib.ListN.{length, set, drop, replicate, length-append, length-replicate}
 use lib.Seq.{set-append-seam}
 use borrow.Author.Tests.{lt-ltb, le-ltb}
 use Rattle.rules.specs.Table.{isFree, keepsAll}
 use Rattle.label.specs.declared.Label.{Label}
 use Rattle.label.specs.Tags.{empty}
-use Rattle.label.specs.Words.{words}
 use Rattle.entity.specs.declared.Entity.{Entity}
-use Rattle.entity.specs.Entity.{rightsOf}
-use Rattle.entity.specs.Block.{padded}
+use Rattle.entity.specs.Entity.{bare}
+use Rattle.block.specs.Block.{padded}
 use Rattle.monitor.specs.declared.Table.{Table}
 use Rattle.monitor.specs.Table.{entityAt, withSlot}
-use Rattle.text.specs.Bytes.{setOf}
-use Rattle.text.specs.Lines.{Lines, done, cut, line, linesOf, fieldsOf}
+use Rattle.text.specs.Bytes.{hexSetOf}
+use Rattle.text.specs.Lines.{Lines, done, cut, line, linesOf, fieldsIn}
 use Rattle.text.proofs.Laws.{Over}
-use Rattle.rows.specs.Entities.{Entry, entityOf, asEntityRow}
+use Rattle.rows.specs.Entities.{EntitySaid, entityOf, asEntityRow}
 use Rattle.rows.specs.declared.Placed.the-variants as Placed
 use Rattle.rows.specs.declared.EntityRow.{EntityRow}
-use Rattle.load.specs.declared.Groups.{Groups}
 use Rattle.load.specs.Tables.{fill, breaking, groupsFrom, grouped, noGroups}
 
 -- ---- a row of the entities that was read
-pub record Read (o : Option Entry) (r : EntityRow) (k : ℕ) (x : Entity) : Type 0 where
-  pub entry : Entry
-  pub is : o ≡ some entry
-  pub slot : k ≡ entry .slot
-  pub entity : x ≡ entry .entity
-  pub block : r .block ≡ padded (entry .content)
+pub record RowRead (o : Option EntitySaid) (r : EntityRow) (k : ℕ) (x : Entity) : Type 0 where
+  pub said : EntitySaid
+  pub is : o ≡ some said
+  pub slot : k ≡ said .slot
+  pub entity : x ≡ said .entity
+  pub block : r .block ≡ padded (said .content)
 
-pub row-some : (r : EntityRow) (k : ℕ) (x : Entity) (o : Option Entry) → r ≡ asEntityRow o → r .placed ≡ Placed.At k x → Read o r k x
+pub row-some : (r : EntityRow) (k : ℕ) (x : Entity) (o : Option EntitySaid) → r ≡ asEntityRow o → r .placed ≡ Placed.At k x → RowRead o r k x
 row-some r k x none e f = let q = ap (λ (y : EntityRow). y .placed) e in let z : _≡_ {A = ℕ} 0 1 = cc in absurd (omega arith)
 row-some r k x (some y) e f =
     let q = ap (λ (z : EntityRow). z .placed) e in
-    record { entry = y; is = refl; slot = cc; entity = cc; block = ap (λ (z : EntityRow). z .block) e }
+    record { said = y; is = refl; slot = cc; entity = cc; block = ap (λ (z : EntityRow). z .block) e }
 
-pub row-none : (r : EntityRow) (o : Option Entry) → r ≡ asEntityRow o → r .placed ≡ Placed.Bad → o ≡ none
+pub row-none : (r : EntityRow) (o : Option EntitySaid) → r ≡ asEntityRow o → r .placed ≡ Placed.Bad → o ≡ none
 row-none r none e f = refl
 row-none r (some y) e f = let q = ap (λ (z : EntityRow). z .placed) e in cc
 
@@ -57,11 +54,11 @@ module _ (hs : List (List ℕ)) where
     fill-over (line l ls) h = absurd h
 
     module _ {all : Lines} {l : List ℕ} {ls : Lines} (w : all ≡ line l ls) where
-      pub fill-none : entityOf hs (fieldsOf l) ≡ none → fill hs n t all ≡ record { twice = 0; table = t }
+      pub fill-none : entityOf hs (fieldsIn l) ≡ none → fill hs n t all ≡ record { twice = 0; table = t }
       unfolding fill
       fill-none e = rw (w, fill, e)
 
-      module _ (y : Entry) (e : entityOf hs (fieldsOf l) ≡ some y) where
+      module _ (y : EntitySaid) (e : entityOf hs (fieldsIn l) ≡ some y) where
         pub fill-twice : isFree (entityAt t (y .slot) .kind) ≡ false → fill hs n t all ≡ record { twice = n; table = t }
         unfolding fill
         fill-twice f = rw (w, fill, e) (rw f)
@@ -81,13 +78,13 @@ module _ (hs : List (List ℕ)) where
     breaking-over (line l ls) h = absurd h
 
     module _ {all : Lines} {l : List ℕ} {ls : Lines} (w : all ≡ line l ls) where
-      pub breaking-none : entityOf hs (fieldsOf l) ≡ none → breaking hs gs n all ≡ 0
+      pub breaking-none : entityOf hs (fieldsIn l) ≡ none → breaking hs gs n all ≡ 0
       unfolding breaking
       breaking-none e = rw (w, breaking, e)
 
-      module _ (y : Entry) (e : entityOf hs (fieldsOf l) ≡ some y) where
+      module _ (y : EntitySaid) (e : entityOf hs (fieldsIn l) ≡ some y) where
         abbrev keeps : Bool
-        keeps = keepsAll {A = words} gs (y .entity .sec) (y .entity .int) (rightsOf (y .entity))
+        keeps = keepsAll gs (bare (y .entity))
 
         either : breaking hs gs n all ≡ cond keeps (breaking hs gs (n + 1) ls) n
         unfolding breaking
@@ -109,11 +106,11 @@ module _ (gs : List Label) where
   groups-over (line l ls) h = absurd h
 
   module _ {all : Lines} {l : List ℕ} {ls : Lines} (w : all ≡ line l ls) where
-    pub groups-none : setOf l ≡ none → groupsFrom gs all ≡ gs
+    pub groups-none : hexSetOf l ≡ none → groupsFrom gs all ≡ gs
     unfolding groupsFrom
     groups-none e = rw (w, groupsFrom, e)
 
-    module _ (g : Label) (e : setOf l ≡ some g) where
+    module _ (g : Label) (e : hexSetOf l ≡ some g) where
       pub groups-full : 8 ≤ length gs → groupsFrom gs all ≡ gs
       unfolding groupsFrom
       groups-full h = rw (w, groupsFrom, e, le-ltb _ _ h)

@@ -1,16 +1,15 @@
 -- What the definition of loading says of each verdict.
 -- Assumes nothing.
-use mathlib.Core.Path.{_≡_, refl, sym, ap, _∙_}
+use mathlib.Core.Path.{_≡_, _∙_}
 use mathlib.Core.List.{List}
 use Prim.Native.Nat.{ℕ, _≤_, _<_}
 use lib.ListN.{length}
 use borrow.Author.Tests.{eq-eqb, ne-eqb, lt-ltb, le-ltb}
-use Rattle.monitor.specs.Table.{emptyTable}
 use Rattle.load.specs.declared.Verdict.{Verdict}
 use Rattle.load.specs.declared.Verdict.the-variants.{Accepted, Refused}
 use Rattle.load.specs.Blocks.{orElse, badLine}
-use Rattle.load.specs.Tables.{filled, tableIn, breakingIn}
-use Rattle.load.specs.Load.{refuseAt, verdictOf, onAccepted, refusedBy, loadOf}
+use Rattle.load.specs.Tables.{entitiesIn, tableIn, breakingIn}
+use Rattle.load.specs.Load.{refuseAt, verdictOf, refusedBy, loadOf}
 
 pub else-first : (a b : ℕ) → (a ≡ 0 → ⊥) → orElse a b ≡ a
 unfolding orElse
@@ -38,7 +37,7 @@ module _ (text : List ℕ) where
   load-14 h = refused-by 14 0 (rw (lt-ltb _ _ h))
 
   module _ (f : length text ≤ 65535) where
-    checks : verdictOf text ≡ refuseAt 15 (badLine text) (refuseAt 16 (filled text .twice) (refuseAt 17 (breakingIn text (tableIn text)) Accepted))
+    checks : verdictOf text ≡ refuseAt 15 (badLine text) (refuseAt 16 (entitiesIn text .twice) (refuseAt 17 (breakingIn text (tableIn text)) Accepted))
     unfolding verdictOf
     checks = rw (le-ltb _ _ f)
 
@@ -46,15 +45,15 @@ module _ (text : List ℕ) where
     load-15 h = refused-by 15 _ (checks ∙ refuse 15 (badLine text) _ h)
 
     module _ (b : badLine text ≡ 0) where
-      pub load-16 : (filled text .twice ≡ 0 → ⊥) → loadOf text ≡ refusedBy 16 (filled text .twice)
-      load-16 h = refused-by 16 _ (checks ∙ pass 15 (badLine text) _ b ∙ refuse 16 (filled text .twice) _ h)
+      pub load-16 : (entitiesIn text .twice ≡ 0 → ⊥) → loadOf text ≡ refusedBy 16 (entitiesIn text .twice)
+      load-16 h = refused-by 16 _ (checks ∙ pass 15 (badLine text) _ b ∙ refuse 16 (entitiesIn text .twice) _ h)
 
-      module _ (t : filled text .twice ≡ 0) where
+      module _ (t : entitiesIn text .twice ≡ 0) where
         pub load-17 : (breakingIn text (tableIn text) ≡ 0 → ⊥) → loadOf text ≡ refusedBy 17 (breakingIn text (tableIn text))
-        load-17 h = refused-by 17 _ (checks ∙ pass 15 (badLine text) _ b ∙ pass 16 (filled text .twice) _ t ∙ refuse 17 (breakingIn text (tableIn text)) _ h)
+        load-17 h = refused-by 17 _ (checks ∙ pass 15 (badLine text) _ b ∙ pass 16 (entitiesIn text .twice) _ t ∙ refuse 17 (breakingIn text (tableIn text)) _ h)
 
         accepts : breakingIn text (tableIn text) ≡ 0 → verdictOf text ≡ Accepted
-        accepts h = checks ∙ pass 15 (badLine text) _ b ∙ pass 16 (filled text .twice) _ t ∙ pass 17 (breakingIn text (tableIn text)) _ h
+        accepts h = checks ∙ pass 15 (badLine text) _ b ∙ pass 16 (entitiesIn text .twice) _ t ∙ pass 17 (breakingIn text (tableIn text)) _ h
 
         pub load-accepted : breakingIn text (tableIn text) ≡ 0 → loadOf text ≡ record { verdict = Accepted; table = tableIn text }
         unfolding loadOf

@@ -6,8 +6,8 @@ use mathlib.Core.List.{List, [], _∷_}
 use mathlib.Core.Option.{Option, none, some}
 use lib.ListN.{length, drop}
 use lib.Dec.{eqb, ltb}
-use Rattle.text.specs.Bytes.{setOf}
-use Rattle.text.specs.Lines.{Lines, done, cut, line, linesOf, lineEnd, lineAt, nextLine, fieldsOf, namesOnce}
+use Rattle.text.specs.Bytes.{hexSetOf}
+use Rattle.text.specs.Lines.{Lines, done, cut, line, linesOf, lineEnd, lineAt, nextLine, fieldsIn, namesOnce}
 use Rattle.rows.specs.Names.{entityNames, groupNames, callNames}
 use Rattle.rows.specs.Entities.{entityOf}
 use Rattle.rows.specs.Calls.{callOf}
@@ -49,7 +49,7 @@ module _ (text : List ℕ) where
 
   -- a block's names, and the lines after them
   abbrev pub namesAt : Place → List (List ℕ)
-  namesAt p = fieldsOf (lineAt text (p .at))
+  namesAt p = fieldsIn (lineAt text (p .at))
 
   abbrev pub rowsAt : Place → Lines
   rowsAt p = linesAt (nextLine text (p .at))
@@ -77,13 +77,13 @@ isSome (some a) = true
 
 -- a row of the entities; of the groups, at most 8 and each one set; of the calls
 unfoldable pub entityGood : List (List ℕ) → ℕ → List ℕ → Bool
-entityGood hs i l = isSome (entityOf hs (fieldsOf l))
+entityGood hs i l = isSome (entityOf hs (fieldsIn l))
 
 unfoldable pub groupGood : List (List ℕ) → ℕ → List ℕ → Bool
-groupGood hs i l = ltb i 8 && isSome (setOf l)
+groupGood hs i l = ltb i 8 && isSome (hexSetOf l)
 
 unfoldable pub callGood : List (List ℕ) → ℕ → List ℕ → Bool
-callGood hs i l = isSome (callOf hs (fieldsOf l))
+callGood hs i l = isSome (callOf hs (fieldsIn l))
 
 -- the first number that is not 0
 unfoldable pub orElse : ℕ → ℕ → ℕ

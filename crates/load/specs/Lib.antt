@@ -1,5 +1,5 @@
 pub mod Blocks
 pub mod Tables
 pub mod Load
-pub mod Round
+pub mod CallsIn
 pub mod Claims

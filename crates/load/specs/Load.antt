@@ -10,16 +10,16 @@ use Rattle.load.specs.declared.Verdict.{Verdict}
 use Rattle.load.specs.declared.Verdict.the-variants.{Accepted, Refused}
 use Rattle.load.specs.declared.Loaded.{Loaded}
 use Rattle.load.specs.Blocks.{badLine}
-use Rattle.load.specs.Tables.{filled, tableIn, breakingIn}
+use Rattle.load.specs.Tables.{entitiesIn, tableIn, breakingIn}
 
 -- the number and the line that a verdict returns
-abbrev pub numberOf : Verdict → ℕ
-numberOf Accepted = 0
-numberOf (Refused n l) = n
+abbrev pub verdictNumber : Verdict → ℕ
+verdictNumber Accepted = 0
+verdictNumber (Refused n l) = n
 
-abbrev pub lineOf : Verdict → ℕ
-lineOf Accepted = 0
-lineOf (Refused n l) = l
+abbrev pub verdictLine : Verdict → ℕ
+verdictLine Accepted = 0
+verdictLine (Refused n l) = l
 
 -- refused by a number where there is such a line, and otherwise as the checks after it say
 unfoldable pub refuseAt : ℕ → ℕ → Verdict → Verdict
@@ -29,7 +29,7 @@ unfoldable pub verdictOf : List ℕ → Verdict
 verdictOf text =
     cond (ltb 65535 (length text)) (Refused 14 0)
     (refuseAt 15 (badLine text)
-    (refuseAt 16 (filled text .twice)
+    (refuseAt 16 (entitiesIn text .twice)
     (refuseAt 17 (breakingIn text (tableIn text))
     Accepted)))
 

@@ -1,7 +1,7 @@
 -- Document 01, 'The text': the entities and groups of a text whose lines have the form, 16 and 17.
 -- Assumes nothing.
 use Prim.Native.Nat.{ℕ, _+_, _-_}
-use mathlib.Core.Bool.{Bool, cond}
+use mathlib.Core.Bool.{cond}
 use mathlib.Core.List.{List, [], _∷_, _++_}
 use mathlib.Core.Option.{Option, none, some}
 use lib.ListN.{length, replicate}
@@ -9,30 +9,29 @@ use lib.Dec.{ltb}
 use Rattle.rules.specs.Table.{isFree, keepsAll}
 use Rattle.label.specs.declared.Label.{Label}
 use Rattle.label.specs.Tags.{empty}
-use Rattle.label.specs.Words.{words}
-use Rattle.entity.specs.Entity.{rightsOf}
-use Rattle.entity.specs.Block.{padded}
+use Rattle.entity.specs.Entity.{bare}
+use Rattle.block.specs.Block.{padded}
 use Rattle.monitor.specs.declared.Table.{Table}
 use Rattle.monitor.specs.Table.{entityAt, groupsOf, withSlot, emptyTable}
-use Rattle.text.specs.Bytes.{setOf}
-use Rattle.text.specs.Lines.{Lines, done, cut, line, fieldsOf}
-use Rattle.rows.specs.Entities.{Entry, entityOf}
-use Rattle.load.specs.declared.Filled.{Filled}
+use Rattle.text.specs.Bytes.{hexSetOf}
+use Rattle.text.specs.Lines.{Lines, done, cut, line, fieldsIn}
+use Rattle.rows.specs.Entities.{entityOf}
+use Rattle.load.specs.declared.Entities.{Entities}
 use Rattle.load.specs.declared.Groups.{Groups}
 use Rattle.load.specs.Blocks.{start, groupsAt, namesAt, rowsAt}
 
 -- a reading, and what to do without one
-abbrev pub given : {A B : Type 0} → Option A → B → (A → B) → B
-given none b f = b
-given (some a) b f = f a
+abbrev pub onSome : {A B : Type 0} → Option A → B → (A → B) → B
+onSome none b f = b
+onSome (some a) b f = f a
 
 module _ (hs : List (List ℕ)) where
   -- The table with the entities of rows, from line n on; the first line whose slot an earlier one names, or 0
-  unfoldable pub fill : ℕ → Table → Lines → Filled
+  unfoldable pub fill : ℕ → Table → Lines → Entities
   fill n t done = record { twice = 0; table = t }
   fill n t cut = record { twice = 0; table = t }
   fill n t (line l ls) =
-      given (entityOf hs (fieldsOf l)) (record { twice = 0; table = t })
+      onSome (entityOf hs (fieldsIn l)) (record { twice = 0; table = t })
       (λ e. cond (isFree (entityAt t (e .slot) .kind))
       (fill (n + 1) (withSlot t (e .slot) (e .entity) (padded (e .content))) ls)
       (record { twice = n; table = t }))
@@ -42,14 +41,14 @@ module _ (hs : List (List ℕ)) where
   breaking gs n done = 0
   breaking gs n cut = 0
   breaking gs n (line l ls) =
-      given (entityOf hs (fieldsOf l)) 0
-      (λ e. cond (keepsAll {A = words} gs (e .entity .sec) (e .entity .int) (rightsOf (e .entity))) (breaking gs (n + 1) ls) n)
+      onSome (entityOf hs (fieldsIn l)) 0
+      (λ e. cond (keepsAll gs (bare (e .entity))) (breaking gs (n + 1) ls) n)
 
 -- the groups of rows, after those that are held; at most 8
 unfoldable pub groupsFrom : List Label → Lines → List Label
 groupsFrom gs done = gs
 groupsFrom gs cut = gs
-groupsFrom gs (line l ls) = given (setOf l) gs (λ g. cond (ltb (length gs) 8) (groupsFrom (gs ++ (g ∷ [])) ls) gs)
+groupsFrom gs (line l ls) = onSome (hexSetOf l) gs (λ g. cond (ltb (length gs) 8) (groupsFrom (gs ++ (g ∷ [])) ls) gs)
 
 -- groups as a table has them: 8 places and a count
 unfoldable pub noGroups : List Label
@@ -62,14 +61,14 @@ unfoldable pub withGroups : Table → Groups → Table
 withGroups t g = record { entities = t .entities; content = t .content; groups = g .sets; count = g .count }
 
 module _ (text : List ℕ) where
-  unfoldable pub filled : Filled
-  filled = fill (namesAt text start) 2 emptyTable (rowsAt text start)
+  unfoldable pub entitiesIn : Entities
+  entitiesIn = fill (namesAt text start) 2 emptyTable (rowsAt text start)
 
   unfoldable pub groupsIn : Groups
   groupsIn = grouped (groupsFrom [] (rowsAt text (groupsAt text)))
 
   unfoldable pub tableIn : Table
-  tableIn = withGroups (filled .table) groupsIn
+  tableIn = withGroups (entitiesIn .table) groupsIn
 
   -- the first line whose entity breaks a group of a table, or 0
   unfoldable pub breakingIn : Table → ℕ

@@ -4,19 +4,19 @@ ghost use mathlib.Core.Bool.{true, false};
 ghost use mathlib.Core.List.{List, []};
 ghost use Prim.Native.Nat.{ℕ, _+_, _<_, _≤_};
 ghost use lib.ListN.{length, drop};
-ghost use Rattle.text.specs.Bytes.{setOf};
-ghost use Rattle.text.specs.Lines.{linesOf, fieldsOf};
+ghost use Rattle.text.specs.Bytes.{hexSetOf};
+ghost use Rattle.text.specs.Lines.{linesOf, fieldsIn};
 ghost use Rattle.rows.specs.Names.{entityNames, groupNames, callNames};
 ghost use Rattle.rows.specs.Entities.{entityOf};
 ghost use Rattle.rows.specs.Calls.{callOf};
 ghost use Rattle.monitor.specs.Table.{groupsOf, emptyTable};
 ghost use Rattle.load.specs.Blocks.{start, pastEmpty, groupsAt, callsAt, rowsBad, blockBad, isSome, entityGood, groupGood, callGood, badLine};
-ghost use Rattle.load.specs.Tables.{fill, breaking, breakingIn, groupsFrom, grouped, noGroups, withGroups, filled, groupsIn};
+ghost use Rattle.load.specs.Tables.{fill, breaking, breakingIn, groupsFrom, grouped, noGroups, withGroups, entitiesIn, groupsIn};
 ghost use Rattle.load.specs.Load.{refusedBy, loadOf};
-ghost use Rattle.load.specs.Round.{callAt};
+ghost use Rattle.load.specs.CallsIn.{callAt};
 use label::Label;
 use monitor::Table;
-use rows::Asked;
+use rows::CallRead;
 use rows::CallRow;
 use rows::Placed;
 use text::Tags;
@@ -28,7 +28,7 @@ pub struct Place {
 }
 
 // The entities of a text, in a table; and the first line whose slot an earlier one names, or 0.
-pub struct Filled {
+pub struct Entities {
     pub twice: usize,
     pub table: Table,
 }
@@ -74,7 +74,7 @@ fn past_empty(text: &[u8], from: Place) -> Place
 }
 
 fn is_entity(header: &[u8], row: &[u8]) -> bool
-    ensures { λ r. ⌜ r ≡ isSome (entityOf (fieldsOf (now (header .entry))) (fieldsOf (now (row .entry)))) ⌝ }
+    ensures { λ r. ⌜ r ≡ isSome (entityOf (fieldsIn (now (header .entry))) (fieldsIn (now (row .entry)))) ⌝ }
 {
     let r = rows::entity_row(header, row);
     let placed = r.placed;
@@ -85,7 +85,7 @@ fn is_entity(header: &[u8], row: &[u8]) -> bool
 }
 
 fn is_set(row: &[u8]) -> bool
-    ensures { λ r. ⌜ r ≡ isSome (setOf (now (row .entry))) ⌝ }
+    ensures { λ r. ⌜ r ≡ isSome (hexSetOf (now (row .entry))) ⌝ }
 {
     let set = text::hex_set(row);
     match set {
@@ -95,28 +95,20 @@ fn is_set(row: &[u8]) -> bool
 }
 
 fn is_call(header: &[u8], row: &[u8]) -> bool
-    ensures { λ r. ⌜ r ≡ isSome (callOf (fieldsOf (now (header .entry))) (fieldsOf (now (row .entry)))) ⌝ }
+    ensures { λ r. ⌜ r ≡ isSome (callOf (fieldsIn (now (header .entry))) (fieldsIn (now (row .entry)))) ⌝ }
 {
     let r = rows::call_row(header, row);
-    let asked = r.asked;
-    match asked {
-        Asked::Put(i, n) => true,
-        Asked::Show(i) => true,
-        Asked::Send(i, j) => true,
-        Asked::Fetch(i, j) => true,
-        Asked::Add(i, n, p) => true,
-        Asked::Drop(i, n, p) => true,
-        Asked::Create(i, j, n) => true,
-        Asked::Release(i, j) => true,
-        Asked::Hand(i, j, n, p) => true,
-        Asked::Bad => false,
+    let read = r.read;
+    match read {
+        CallRead::Call(c) => true,
+        CallRead::Bad => false,
     }
 }
 
 // The first bad line of the rows of entities, or 0.
 fn entity_rows(text: &[u8], header: &[u8], from: usize, first: usize) -> usize
     requires { ⌜ (from ≤ length (now text)) × (first ≤ from + 1) ⌝ }
-    ensures { λ r. ⌜ r ≡ rowsBad (entityGood (fieldsOf (now (header .entry)))) false first 0 (linesOf (drop from (now (text .entry)))) ⌝ }
+    ensures { λ r. ⌜ r ≡ rowsBad (entityGood (fieldsIn (now (header .entry)))) false first 0 (linesOf (drop from (now (text .entry)))) ⌝ }
 {
     let mut at = from;
     let mut line = first;
@@ -167,7 +159,7 @@ fn group_rows(text: &[u8], from: usize, first: usize) -> usize
 // The first bad line of the rows of calls, or 0.
 fn call_rows(text: &[u8], header: &[u8], from: usize, first: usize) -> usize
     requires { ⌜ (from ≤ length (now text)) × (first ≤ from + 1) ⌝ }
-    ensures { λ r. ⌜ r ≡ rowsBad (callGood (fieldsOf (now (header .entry)))) true first 0 (linesOf (drop from (now (text .entry)))) ⌝ }
+    ensures { λ r. ⌜ r ≡ rowsBad (callGood (fieldsIn (now (header .entry)))) true first 0 (linesOf (drop from (now (text .entry)))) ⌝ }
 {
     let mut at = from;
     let mut line = first;
@@ -269,9 +261,9 @@ fn bad_line(text: &[u8]) -> usize
 }
 
 // The entities of the rows at a place, put into a table one after the other.
-fn fill_rows(text: &[u8], header: &[u8], from: usize) -> Filled
+fn fill_rows(text: &[u8], header: &[u8], from: usize) -> Entities
     requires { ⌜ (from ≤ length (now text)) × (length (now text) ≤ 65535) ⌝ }
-    ensures { λ r. ⌜ r ≡ fill (fieldsOf (now (header .entry))) 2 emptyTable (linesOf (drop from (now (text .entry)))) ⌝ }
+    ensures { λ r. ⌜ r ≡ fill (fieldsIn (now (header .entry))) 2 emptyTable (linesOf (drop from (now (text .entry)))) ⌝ }
 {
     let mut table = Table::empty();
     let mut at = from;
@@ -279,7 +271,7 @@ fn fill_rows(text: &[u8], header: &[u8], from: usize) -> Filled
     loop {
         let end = text::line_end(text, at);
         if text.len() <= end {
-            return Filled {
+            return Entities {
                 twice: 0,
                 table: table,
             };
@@ -287,15 +279,14 @@ fn fill_rows(text: &[u8], header: &[u8], from: usize) -> Filled
         let row = rows::entity_row(header, text::line_at(text, at));
         let placed = row.placed;
         let Placed::At(slot, e) = placed else {
-            return Filled {
+            return Entities {
                 twice: 0,
                 table: table,
             };
         };
         let was = table.entity(slot);
-        let kind = was.kind;
-        if !entity::is_free(kind) {
-            return Filled {
+        if !was.is_free() {
+            return Entities {
                 twice: line,
                 table: table,
             };
@@ -308,9 +299,9 @@ fn fill_rows(text: &[u8], header: &[u8], from: usize) -> Filled
 }
 
 // The entities of a text.
-fn fill_in(text: &[u8]) -> Filled
+fn entities_in(text: &[u8]) -> Entities
     requires { ⌜ length (now text) ≤ 65535 ⌝ }
-    ensures { λ r. ⌜ r ≡ filled (now (text .entry)) ⌝ }
+    ensures { λ r. ⌜ r ≡ entitiesIn (now (text .entry)) ⌝ }
 {
     let from = text::next_line(text, 0);
     fill_rows(text, text::line_at(text, 0), from)
@@ -381,7 +372,7 @@ fn with_groups(table: Table, g: Groups) -> Table
 // The first row at a place whose entity breaks a group of a table, or 0.
 fn breaking_row(text: &[u8], header: &[u8], from: usize, table: Table) -> usize
     requires { ⌜ (from ≤ length (now text)) × (length (now text) ≤ 65535) ⌝ }
-    ensures { λ r. ⌜ r ≡ breaking (fieldsOf (now (header .entry))) (groupsOf table) 2 (linesOf (drop from (now (text .entry)))) ⌝ }
+    ensures { λ r. ⌜ r ≡ breaking (fieldsIn (now (header .entry))) (groupsOf table) 2 (linesOf (drop from (now (text .entry)))) ⌝ }
 {
     let mut at = from;
     let mut line: usize = 2;
@@ -433,7 +424,7 @@ pub fn load(text: &[u8]) -> Loaded
     if bad != 0 {
         return refused(15, bad);
     }
-    let entities = fill_in(text);
+    let entities = entities_in(text);
     let twice = entities.twice;
     if twice != 0 {
         return refused(16, twice);

@@ -1,12 +1,12 @@
 -- What the form of a table tells of its slots, and that the hub's table has the laws of tables.
 -- Assumes nothing.
-use mathlib.Core.Path.{_≡_, refl, sym, ap, ap₂, _∙_}
+use mathlib.Core.Path.{_≡_, refl, sym, ap, _∙_}
 use mathlib.Core.Bool.{Bool, true, false, cond, _&&_}
-use mathlib.Core.List.{List, []}
+use mathlib.Core.List.{List}
 use Prim.Native.Nat.{ℕ, _≤_, _<_}
 use native.Mathlib.Omega.{arith}
 use lib.Dec.{ltb, leb, eqb}
-use lib.ListN.{length, getD, set, take, drop, length-set}
+use lib.ListN.{length, getD, set, drop, length-set}
 use lib.Seq.{getD-set-same, getD-set-other}
 use borrow.Author.Tests.{ltb-true, ltb-false, lt-ltb, leb-true, eqb-true, eqb-false, eq-eqb}
 use Rattle.rules.specs.Bounded.{allBelow}
@@ -17,10 +17,10 @@ use Rattle.rules.proofs.Bounded.{all-at, all-of}
 use Rattle.label.specs.Words.{words}
 use Rattle.label.proofs.Words.{words-order}
 use Rattle.entity.specs.declared.Entity.{Entity}
-use Rattle.entity.specs.Entity.{freeEntity, rightsOf, slotOf, entityAs}
-use Rattle.entity.specs.Block.{allZero, noBlock, padded, blockAt, withBlock}
-use Rattle.entity.proofs.Lists.{block-length, block-out, set-length, set-same, set-other, zero-drop}
-use Rattle.entity.proofs.Padding.{cut-length, cut-padded, padded-length, padded-front, padded-rest}
+use Rattle.entity.specs.Entity.{freeEntity, bare, slotOf, entityAs}
+use Rattle.block.specs.Block.{allZero, noBlock, padded, blockAt, withBlock}
+use Rattle.block.proofs.Lists.{block-length, block-out, set-length, set-same, set-other, zero-drop}
+use Rattle.block.proofs.Padding.{cut-length, cut-padded, padded-length, padded-front, padded-rest}
 use Rattle.monitor.specs.declared.Table.{Table}
 use Rattle.monitor.specs.Table.{entityAt, wellPlaced, placeFormed, formed, groupsOf, withSlot, hub}
 
@@ -64,13 +64,13 @@ module _ (t : Table) (f : formed t ≡ true) where
     e : Entity
     e = entityAt t i
 
-    parts : partsFormed {A = words} (e .kind) (e .sec) (e .int) (rightsOf e) (e .len) ≡ true
+    parts : partsFormed (bare e) (e .len) ≡ true
     unfolding placeFormed e
-    parts = and-left (partsFormed {A = words} (e .kind) (e .sec) (e .int) (rightsOf e) (e .len)) _ (place i)
+    parts = and-left (partsFormed (bare e) (e .len)) _ (place i)
 
     zero-rest : allZero (drop (e .len) (blockAt (t .content) i)) ≡ true
     unfolding placeFormed e
-    zero-rest = and-right (partsFormed {A = words} (e .kind) (e .sec) (e .int) (rightsOf e) (e .len)) _ (place i)
+    zero-rest = and-right (partsFormed (bare e) (e .len)) _ (place i)
 
     pub len-le : entityAt t i .len ≤ 64
     unfolding e

@@ -1,12 +1,8 @@
-pub mod Lists
-pub mod Groups
 pub mod Form
+pub mod Look
 pub mod Finish
 pub mod Written
-pub mod Reader
-pub mod Audit
 pub mod ShowLaws
 pub mod AuditLaws
-pub mod And
-pub mod Share
 pub mod Claims
+pub mod TableType

@@ -1,6 +1,4 @@
 pub mod Table
 pub mod Calls
-pub mod Parts
+pub mod Finish
 pub mod Claims
-pub mod Ends
-pub mod Reader

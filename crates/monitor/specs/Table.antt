@@ -6,13 +6,13 @@ use mathlib.Core.List.{List}
 use lib.Dec.{ltb, leb, eqb}
 use lib.ListN.{length, getD, set, take, drop, replicate}
 use Rattle.rules.specs.Bounded.{allBelow}
-use Rattle.rules.specs.Table.{Slot, Tables, partsFormed}
+use Rattle.rules.specs.Table.{Tables, partsFormed}
 use Rattle.label.specs.declared.Label.{Label}
 use Rattle.label.specs.Tags.{empty}
 use Rattle.label.specs.Words.{words}
 use Rattle.entity.specs.declared.Entity.{Entity}
-use Rattle.entity.specs.Entity.{freeEntity, rightsOf, slotOf, entityAs}
-use Rattle.entity.specs.Block.{allZero, padded, blockAt, withBlock}
+use Rattle.entity.specs.Entity.{freeEntity, bare, slotOf, entityAs}
+use Rattle.block.specs.Block.{allZero, padded, blockAt, withBlock}
 use Rattle.monitor.specs.declared.Table.{Table}
 
 -- what stands in a slot; a slot above 31 counts as free
@@ -23,7 +23,7 @@ entityAt t k = cond (ltb k 32) (getD (t .entities) k freeEntity) freeEntity
 
 -- an entity has the form, and the bytes of its block beyond its content's length are zero
 abbrev pub wellPlaced : Entity → List ℕ → Bool
-wellPlaced e block = partsFormed {A = words} (e .kind) (e .sec) (e .int) (rightsOf e) (e .len) && allZero (drop (e .len) block)
+wellPlaced e block = partsFormed (bare e) (e .len) && allZero (drop (e .len) block)
 
 unfoldable pub placeFormed : Table → ℕ → Bool
 placeFormed t k = wellPlaced (entityAt t k) (blockAt (t .content) k)

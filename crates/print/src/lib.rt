@@ -1,8 +1,7 @@
 // The lines that the programs print.
 ghost use mathlib.Core.Path.{_≡_};
 ghost use mathlib.Core.Bool.{cond};
-ghost use mathlib.Core.List.{List, [], _++_};
-ghost use Prim.Native.Nat.{ℕ, _+_, _*_, _<_, _≤_};
+ghost use Prim.Native.Nat.{_+_, _*_, _<_, _≤_};
 ghost use lib.ListN.{length, drop};
 ghost use lib.Seq.{sets};
 ghost use lib.Dec.{leb, eqb};
@@ -168,7 +167,7 @@ pub fn refused_line(number: u8, line: usize) -> Short
 }
 
 // The line of a record that an audit shows.
-pub fn record_line(entry: [u8; 16]) -> Short
+pub fn record_line(entry: [u8; records::SIZE]) -> Short
     ensures { λ r. ⌜ r ≡ short (recordLine entry) ⌝ }
 {
     let mut bytes = no_line();

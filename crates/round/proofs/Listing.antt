@@ -1,19 +1,19 @@
--- The records of a text's calls, listed one by one at the front of a buffer.
+-- The records of a text's calls, recordsWithin one by one at the front of a buffer.
 -- Assumes nothing.
 use mathlib.Core.Path.{_≡_, refl, sym, ap, ap₂, subst, _∙_}
 use mathlib.Core.Bool.{Bool, true, false, cond}
-use mathlib.Core.List.{List, [], _∷_, _++_, append-assoc, append-nil}
+use mathlib.Core.List.{List, [], _++_, append-assoc, append-nil}
 use Prim.Native.Nat.{ℕ, zero, suc, _+_, _*_, _-_, _%_, _≤_, _<_}
 use native.Mathlib.Omega.{arith}
-use lib.Dec.{leb, ltb}
-use lib.ListN.{length, take, drop, length-take, length-drop, length-append}
+use lib.Dec.{leb}
+use lib.ListN.{length, take, drop, length-take, length-append}
 use lib.Seq.{paste, take-all, take-append-le, take-at, drop-append-add, drop-drop}
 use borrow.Author.Tests.{leb-true, leb-false, lt-ltb, le-ltb}
 use Rattle.rules.specs.Record.{filled}
 use Rattle.rules.proofs.Refused.{filled-length}
 use Rattle.monitor.specs.declared.Table.{Table}
 use Rattle.round.specs.Round.{stepOf, onto, playFrom, recordBy}
-use Rattle.round.specs.Parts.{appended, appendedAt}
+use Rattle.records.specs.Append.{appended, appendedAt}
 use Rattle.round.proofs.Round.{step-later}
 
 -- sixteen bytes behind a front that fills a buffer
@@ -29,7 +29,7 @@ module _ (text : List ℕ) (names : ℕ) (whole : List ℕ × Table) (out₀ : L
   abbrev room : ℕ
   room = length out₀ - length out₀ % 16
 
-  -- the lines before a place are played: their records are listed, as far as they have room, and what is left makes the whole
+  -- the lines before a place are played: their records are recordsWithin, as far as they have room, and what is left makes the whole
   pub record Listed (out : List ℕ) (t : Table) (n at : ℕ) : Type 0 where
     pub left : ℕ
     pub enough : length text ≤ at + left

@@ -1,15 +1,15 @@
 -- The lines of a round are those of the run of its calls.
 -- Assumes nothing.
-use mathlib.Core.Path.{_≡_, refl, sym, ap, ap₂, subst, _∙_}
+use mathlib.Core.Path.{_≡_, refl, sym, ap, ap₂, _∙_}
 use mathlib.Core.Bool.{Bool, true, false, cond, _&&_}
-use mathlib.Core.List.{List, [], _∷_, _++_}
+use mathlib.Core.List.{List, [], _∷_}
 use mathlib.Core.Option.{Option, none, some}
 use Prim.Native.Nat.{ℕ, zero, suc, _+_, _≤_, _<_}
 use native.Mathlib.Omega.{arith}
 use lib.Dec.{eqb, ltb}
-use lib.ListN.{length, take, drop}
+use lib.ListN.{length, drop}
 use lib.Seq.{take-append-seam}
-use borrow.Author.Tests.{eq-eqb, ne-eqb, eqb-false, ltb-true, ltb-false, lt-ltb, le-ltb}
+use borrow.Author.Tests.{eqb-false, ltb-true, ltb-false, lt-ltb, le-ltb}
 use Rattle.rules.specs.Calls.{Call}
 use Rattle.rules.specs.Refusals.{step}
 use Rattle.rules.specs.Record.{answer}
@@ -17,9 +17,9 @@ use Rattle.rules.specs.Runs.{final, trace}
 use Rattle.label.specs.Words.{words}
 use Rattle.monitor.specs.declared.Table.{Table}
 use Rattle.monitor.specs.Table.{hub}
-use Rattle.text.specs.Lines.{Lines, done, cut, line, linesOf, lineEnd, lineAt, nextLine, fieldsOf, namesOnce}
+use Rattle.text.specs.Lines.{Lines, done, line, linesOf, lineEnd, lineAt, nextLine, fieldsIn, namesOnce}
 use Rattle.text.proofs.Laws.{line-ends, line-here, lines-end, next-whole, next-later}
-use Rattle.rows.specs.Calls.{callOf, asCallRow}
+use Rattle.rows.specs.Calls.{CallSaid, callIn, callOf, asCallRow}
 use Rattle.rows.specs.Names.{callNames}
 use Rattle.rows.specs.declared.CallRow.{CallRow}
 use Rattle.load.specs.declared.Place.{Place}
@@ -28,19 +28,14 @@ use Rattle.load.specs.declared.Verdict.{Verdict}
 use Rattle.load.specs.declared.Verdict.the-variants.{Accepted, Refused}
 use Rattle.load.specs.Load.{verdictOf, loadOf}
 use Rattle.load.proofs.Accepted.{bad-none}
-use Rattle.print.specs.Lines.{callLine}
-use Rattle.load.specs.Round.{callsFrom, callsOf, callAt}
+use Rattle.load.specs.CallsIn.{callsFrom, callsOf, callAt}
 use Rattle.load.proofs.Laws.{rows-cut, last-bad, last-step}
-use Rattle.round.specs.declared.Played.{Played}
 use Rattle.round.specs.Played.{played}
 use Rattle.round.specs.declared.Step.{Step}
-use Rattle.round.specs.Round.{playedLine, noLine, asLine, stepWith, stepOf, onto, playFrom, playAll, lineBy, recordBy, answerLine, RoundRuns, RecordsRun, namesLine, outputWith, outputOf, OutputRuns}
-use Rattle.round.proofs.Calls.{Formed, call-formed, Faithful, faithful}
+use Rattle.round.specs.Round.{playedLine, blankLine, asLine, stepWith, stepOf, onto, playFrom, playAll, lineBy, recordBy, answerLine, RoundRuns, RecordsRun, namesLine, outputWith, outputOf, OutputRuns}
+use Rattle.round.proofs.Calls.{faithful}
 
-call-faithful : (t : Table) (c : Call words) → Formed c → Faithful t c
-call-faithful t c f = subst (Faithful t) (f .is) (faithful t (f .caller) (f .other) (f .set) (f .tag) (f .bytes) (f .form))
-
-calls-line : (hs : List (List ℕ)) (l : List ℕ) (ls : Lines) (c : Call words) → callOf hs (fieldsOf l) ≡ some c → callsFrom hs (line l ls) ≡ c ∷ callsFrom hs ls
+calls-line : (hs : List (List ℕ)) (l : List ℕ) (ls : Lines) (c : CallSaid) → callOf hs (fieldsIn l) ≡ some c → callsFrom hs (line l ls) ≡ callIn c ∷ callsFrom hs ls
 unfolding callsFrom
 calls-line hs l ls c e = rw (callsFrom, e)
 
@@ -48,7 +43,7 @@ calls-done : (hs : List (List ℕ)) → callsFrom hs done ≡ []
 unfolding callsFrom
 calls-done hs = refl
 
-good-some : (o : Option (Call words)) → isSome o ≡ true → (c : Call words) × (o ≡ some c)
+good-some : (o : Option CallSaid) → isSome o ≡ true → (c : CallSaid) × (o ≡ some c)
 good-some none e = let z : _≡_ {A = ℕ} 0 1 = cc in absurd (omega arith)
 good-some (some c) e = (c, refl)
 
@@ -63,9 +58,9 @@ step-later text names at t h = next-later text at h
 
 -- what each step gives, where it is what a rule gives for the call
 module _ {X : Type 0} (give : Step → List X) (rule : Table → Call words → List X) (text : List ℕ) (names : ℕ)
-    (same : (at : ℕ) (t : Table) (c : Call words) → Faithful t c → give (stepWith text at (played t (asCallRow (some c)))) ≡ rule t c) where
+    (same : (at : ℕ) (t : Table) (c : CallSaid) → give (stepWith text at (played t (asCallRow (some c)))) ≡ rule t (callIn c)) where
   abbrev hs : List (List ℕ)
-  hs = fieldsOf (lineAt text names)
+  hs = fieldsIn (lineAt text names)
 
   abbrev runOf : Table → List (Call words) → List X × Table
   runOf t cs = (trace (step hub) rule t cs, final (step hub) t cs)
@@ -88,26 +83,23 @@ module _ {X : Type 0} (give : Step → List X) (rule : Table → Call words → 
   run-none at t h = ap (runOf t) (ap (callsFrom hs) (lines-end text at h) ∙ calls-done hs)
 
   -- a row that is a call
-  module _ (at : ℕ) (t : Table) (c : Call words) (e : callOf hs (fieldsOf (lineAt text at)) ≡ some c) where
+  module _ (at : ℕ) (t : Table) (c : CallSaid) (e : callOf hs (fieldsIn (lineAt text at)) ≡ some c) where
     call-is : callAt text names at ≡ asCallRow (some c)
     unfolding callAt
     call-is = ap asCallRow e
 
-    is-faithful : Faithful t c
-    is-faithful = call-faithful t c (call-formed hs (fieldsOf (lineAt text at)) c e)
+    first : give (stepOf text names at t) ≡ rule t (callIn c)
+    first = ap (λ (r : CallRow). give (stepWith text at (played t r))) call-is ∙ same at t c
 
-    first : give (stepOf text names at t) ≡ rule t c
-    first = ap (λ (r : CallRow). give (stepWith text at (played t r))) call-is ∙ same at t c is-faithful
-
-    next : stepOf text names at t .table ≡ step hub t c
+    next : stepOf text names at t .table ≡ step hub t (callIn c)
     unfolding stepWith
-    next = ap (λ (r : CallRow). played t r .table) call-is ∙ is-faithful .table
+    next = ap (λ (r : CallRow). played t r .table) call-is ∙ faithful t c .table
 
     place : stepOf text names at t .at ≡ nextLine text at
     unfolding stepWith
     place = refl
 
-    run-one : (ls : Lines) → run t (line (lineAt text at) ls) ≡ onto (rule t c) (run (step hub t c) ls)
+    run-one : (ls : Lines) → run t (line (lineAt text at) ls) ≡ onto (rule t (callIn c)) (run (step hub t (callIn c)) ls)
     unfolding run
     run-one ls = ap (runOf t) (calls-line hs (lineAt text at) ls c e)
 
@@ -118,17 +110,17 @@ module _ {X : Type 0} (give : Step → List X) (rule : Table → Call words → 
       here : linesOf (drop at text) ≡ line (lineAt text at) (linesOf (drop (lineEnd text at + 1) text))
       here = line-here text at (lineEnd text at) refl (omega arith) w .is
 
-      call : (c : Call words) → callOf hs (fieldsOf (lineAt text at)) ≡ some c → callGood hs i (lineAt text at) ≡ true
+      call : (c : CallSaid) → callOf hs (fieldsIn (lineAt text at)) ≡ some c → callGood hs i (lineAt text at) ≡ true
           → playFrom give text names (suc k) at t ≡ run t (linesOf (drop at text))
       call c e g =
           play-one k at t l
           ∙ ap₂ onto (first at t c e)
-          (ap₂ (playFrom give text names k) (place at t c e ∙ next-whole text at w) (next at t c e) ∙ ih (step hub t c) (sym (last-step (callGood hs) n i here g) ∙ b))
+          (ap₂ (playFrom give text names k) (place at t c e ∙ next-whole text at w) (next at t c e) ∙ ih (step hub t (callIn c)) (sym (last-step (callGood hs) n i here g) ∙ b))
           ∙ sym (ap (run t) here ∙ run-one at t c e (linesOf (drop (lineEnd text at + 1) text)))
 
       row : (g : Bool) → callGood hs i (lineAt text at) ≡ g → playFrom give text names (suc k) at t ≡ run t (linesOf (drop at text))
       unfolding callGood
-      row true g = let s = good-some (callOf hs (fieldsOf (lineAt text at))) g in call (s .0) (s .1) g
+      row true g = let s = good-some (callOf hs (fieldsIn (lineAt text at))) g in call (s .0) (s .1) g
       row false g = let q = sym (last-bad (callGood hs) n i here g) ∙ b in absurd (omega arith)
 
     turn : (v : Bool) → ltb at (length text) ≡ v → (w : Bool) → ltb (lineEnd text at) (length text) ≡ w → playFrom give text names (suc k) at t ≡ run t (linesOf (drop at text))
@@ -173,30 +165,30 @@ unfolding callsAt groupsAt pastEmpty start
 calls-line-number text = omega arith
 
 module _ {X : Type 0} (give : Step → List X) (rule : Table → Call words → List X) where
-  all-runs : (text : List ℕ) → ((at : ℕ) (t : Table) (c : Call words) → Faithful t c → give (stepWith text at (played t (asCallRow (some c)))) ≡ rule t c) → verdictOf text ≡ Accepted
-      → playAll give text (loadOf text .table) ≡ (trace (step hub) rule (loadOf text .table) (callsOf text), final (step hub) (loadOf text .table) (callsOf text))
+  all-runs : (text : List ℕ) (t : Table) → ((at : ℕ) (u : Table) (c : CallSaid) → give (stepWith text at (played u (asCallRow (some c)))) ≡ rule u (callIn c)) → verdictOf text ≡ Accepted
+      → playAll give text t ≡ (trace (step hub) rule t (callsOf text), final (step hub) t (callsOf text))
   unfolding callsOf run badLine
-  all-runs text same e =
+  all-runs text t same e =
       let b = bad-none text e in
       let q = else-none _ _ (else-none _ _ b) in
-      steps give rule text (callsAt text .at) same (length text) (nextLine text (callsAt text .at)) (callsAt text .line + 1) 0 (loadOf text .table) (omega arith) (omega arith)
+      steps give rule text (callsAt text .at) same (length text) (nextLine text (callsAt text .at)) (callsAt text .line + 1) 0 t (omega arith) (omega arith)
       (rows-none text (callsAt text) (calls-line-number text) q)
 
-line-given : (text : List ℕ) (at : ℕ) (t : Table) (c : Call words) → Faithful t c → lineBy (stepWith text at (played t (asCallRow (some c)))) ≡ answerLine t c
+line-given : (text : List ℕ) (at : ℕ) (t : Table) (c : CallSaid) → lineBy (stepWith text at (played t (asCallRow (some c)))) ≡ answerLine t (callIn c)
 unfolding stepWith asLine
-line-given text at t c f =
+line-given text at t c =
     let l = playedLine (played t (asCallRow (some c))) in
-    ap (λ (x : List ℕ). x ∷ []) (take-append-seam l (drop (length l) noLine) ∙ f .line)
+    ap (λ (x : List ℕ). x ∷ []) (take-append-seam l (drop (length l) blankLine) ∙ faithful t c .line)
 
-record-given : (text : List ℕ) (at : ℕ) (t : Table) (c : Call words) → Faithful t c → recordBy (stepWith text at (played t (asCallRow (some c)))) ≡ answer hub t c .entry
+record-given : (text : List ℕ) (at : ℕ) (t : Table) (c : CallSaid) → recordBy (stepWith text at (played t (asCallRow (some c)))) ≡ answer hub t (callIn c) .entry
 unfolding stepWith
-record-given text at t c f = f .entry
+record-given text at t c = faithful t c .entry
 
 pub round-runs : RoundRuns
-round-runs text e = ap (λ (r : List (List ℕ) × Table). r .0) (all-runs lineBy answerLine text (line-given text) e)
+round-runs text e = ap (λ (r : List (List ℕ) × Table). r .0) (all-runs lineBy answerLine text (loadOf text .table) (line-given text) e)
 
 pub records-run : RecordsRun
-records-run text e = all-runs recordBy (λ (u : Table) (c : Call words). answer hub u c .entry) text (record-given text) e
+records-run text t e = all-runs recordBy (λ (u : Table) (c : Call words). answer hub u c .entry) text t (record-given text) e
 
 pub output-runs : OutputRuns
 output-runs text = go (verdictOf text) refl

@@ -8,7 +8,7 @@ use lib.Dec.{ltb}
 use lib.ListN.{length, take, drop, replicate}
 use Rattle.rules.specs.Calls.{Call}
 use Rattle.rules.specs.Refusals.{step}
-use Rattle.rules.specs.Record.{answer}
+use Rattle.rules.specs.Record.{recordSize, answer}
 use Rattle.rules.specs.Runs.{final, trace, records}
 use Rattle.label.specs.Words.{words}
 use Rattle.monitor.specs.declared.Table.{Table}
@@ -16,8 +16,8 @@ use Rattle.monitor.specs.Table.{hub}
 use Rattle.text.specs.Lines.{nextLine}
 use Rattle.load.specs.declared.Verdict.the-variants.{Accepted}
 use Rattle.load.specs.Blocks.{callsAt}
-use Rattle.load.specs.Load.{numberOf, lineOf, verdictOf, onAccepted, loadOf}
-use Rattle.load.specs.Round.{callsOf, callAt}
+use Rattle.load.specs.Load.{verdictNumber, verdictLine, verdictOf, onAccepted, loadOf}
+use Rattle.load.specs.CallsIn.{callsOf, callAt}
 use Rattle.print.specs.Lines.{callLine, refusedLine}
 use Rattle.round.specs.declared.Played.{Played}
 use Rattle.round.specs.declared.Line.{Line}
@@ -32,11 +32,11 @@ abbrev pub playedLine : Played → List ℕ
 playedLine p = callLine (p .entry) (take (p .len) (p .buffer))
 
 -- a line in 162 bytes, which a record and 64 bytes shown take, zeros after it
-unfoldable pub noLine : List ℕ
-noLine = replicate 162 0
+unfoldable pub blankLine : List ℕ
+blankLine = replicate 162 0
 
 unfoldable pub asLine : List ℕ → Line
-asLine l = record { bytes = l ++ drop (length l) noLine; len = length l }
+asLine l = record { bytes = l ++ drop (length l) blankLine; len = length l }
 
 -- one line of calls at a place, played on a table
 unfoldable pub stepWith : List ℕ → ℕ → Played → Step
@@ -72,11 +72,11 @@ abbrev pub roundOf : List ℕ → List (List ℕ)
 roundOf text = playAll lineBy text (loadOf text .table) .0
 
 -- the records of all calls from a table on that have room in `room` bytes, each as a whole
-abbrev pub listed : List ℕ → Table → ℕ → List ℕ
-listed text t room = take (room - room % 16) (playAll recordBy text t .0)
+abbrev pub recordsWithin : List ℕ → Table → ℕ → List ℕ
+recordsWithin text t room = take (room - room % recordSize words) (playAll recordBy text t .0)
 
 abbrev pub endedOf : List ℕ → Table → ℕ → Ended
-endedOf text t room = record { table = playAll recordBy text t .1; len = length (listed text t room) }
+endedOf text t room = record { table = playAll recordBy text t .1; len = length (recordsWithin text t room) }
 
 -- ---- by the rules
 
@@ -88,10 +88,10 @@ answerLine t c = callLine (answer hub t c .entry) (answer hub t c .part) ∷ []
 abbrev pub RoundRuns : Type 0
 RoundRuns = (text : List ℕ) → verdictOf text ≡ Accepted → roundOf text ≡ trace (step hub) answerLine (loadOf text .table) (callsOf text)
 
--- The records of an accepted text's calls, and the table after them, are those of the run
+-- The records of an accepted text's calls from any table on, and the table after them, are those of the run
 abbrev pub RecordsRun : Type 0
-RecordsRun = (text : List ℕ) → verdictOf text ≡ Accepted → let t = loadOf text .table in
-    playAll recordBy text t ≡ (records hub t (callsOf text), final (step hub) t (callsOf text))
+RecordsRun = (text : List ℕ) (t : Table) → verdictOf text ≡ Accepted
+    → playAll recordBy text t ≡ (records hub t (callsOf text), final (step hub) t (callsOf text))
 
 -- ---- what the program prints
 
@@ -101,7 +101,7 @@ namesLine = 114 ∷ 101 ∷ 99 ∷ 111 ∷ 114 ∷ 100 ∷ 32 ∷ 100 ∷ 97 ∷
 
 -- the line of names before the lines of the calls; of a refused text only its number and line
 abbrev pub outputWith : List ℕ → List (List ℕ) → List (List ℕ)
-outputWith text lines = onAccepted (verdictOf text) (namesLine ∷ lines) (refusedLine (numberOf (verdictOf text)) (lineOf (verdictOf text)) ∷ [])
+outputWith text lines = onAccepted (verdictOf text) (namesLine ∷ lines) (refusedLine (verdictNumber (verdictOf text)) (verdictLine (verdictOf text)) ∷ [])
 
 abbrev pub outputOf : List ℕ → List (List ℕ)
 outputOf text = outputWith text (roundOf text)

@@ -1,24 +1,20 @@
 // A round: the calls of a text, played one by one.
 ghost use mathlib.Core.Path.{_≡_};
-ghost use Prim.Native.Nat.{ℕ};
 ghost use lib.ListN.{length, take};
 ghost use Rattle.rows.specs.Calls.{showBuffer};
 ghost use Rattle.print.specs.Lines.{callLine};
-ghost use Rattle.rules.specs.Calls.{put};
 ghost use Rattle.rules.specs.Record.{filled};
-ghost use Rattle.monitor.specs.Calls.{reply};
-ghost use Rattle.round.specs.Played.{quiet, showing, unplayed, played};
-ghost use Rattle.round.specs.Round.{noLine, asLine, stepOf, listed, endedOf};
-ghost use Rattle.round.specs.Parts.{appended, appendedAt};
-use monitor::Reply;
+ghost use Rattle.round.specs.Played.{bytesShown, performed, unplayed, played};
+ghost use Rattle.round.specs.Round.{blankLine, asLine, stepOf, recordsWithin, endedOf};
 use monitor::Table;
-use rows::Asked;
+use rows::CallRead;
 use rows::CallRow;
+use rules::Call;
 
 // The table after a call, the call's record, and the bytes that it shows: the first len of a buffer.
 pub struct Played {
     pub table: Table,
-    pub entry: [u8; 16],
+    pub entry: [u8; records::SIZE],
     pub buffer: [u8; 64],
     pub len: usize,
 }
@@ -29,30 +25,33 @@ fn no_buffer() -> [u8; 64]
     [0u8; 64]
 }
 
-fn quiet(r: Reply) -> Played
-    ensures { λ p. ⌜ p ≡ quiet r ⌝ }
+// How many bytes a call shows, of those that it moves.
+fn bytes_shown(call: Call, moved: u8) -> usize
+    ensures { λ r. ⌜ r ≡ bytesShown call moved ⌝ }
 {
-    let table = r.table;
-    let answer = r.answer;
-    let entry = answer.entry;
-    let buffer = no_buffer();
-    Played {
-        table: table,
-        entry: entry,
-        buffer: buffer,
-        len: 0,
+    match call {
+        Call::Put(i) => 0,
+        Call::Show(i) => moved as usize,
+        Call::Send(i, j) => 0,
+        Call::Fetch(i, j) => 0,
+        Call::Add(i, n, p) => 0,
+        Call::Drop(i, n, p) => 0,
+        Call::Create(i, j, n) => 0,
+        Call::Release(i, j) => 0,
+        Call::Hand(i, j, n, p) => 0,
     }
 }
 
-fn showing(table: Table, caller: u8) -> Played
-    ensures { λ p. ⌜ p ≡ showing table caller ⌝ }
+// Plays a call with the first n of some bytes.
+fn performed(table: Table, call: Call, bytes: [u8; 255], n: usize) -> Played
+    ensures { λ p. ⌜ p ≡ performed table call (take n bytes) ⌝ }
 {
     let mut buffer = no_buffer();
-    let r = table.show_into(caller, &mut buffer);
+    let r = table.perform(call, handing::front(&bytes, n), &mut buffer);
     let next = r.table;
     let answer = r.answer;
     let entry = answer.entry;
-    let len = entry[4] as usize;
+    let len = bytes_shown(call, entry[4]);
     Played {
         table: next,
         entry: entry,
@@ -67,36 +66,21 @@ fn unplayed(table: Table) -> Played
     let buffer = no_buffer();
     Played {
         table: table,
-        entry: [0u8; 16],
+        entry: [0u8; records::SIZE],
         buffer: buffer,
         len: 0,
     }
-}
-
-// Puts the first n of some bytes.
-fn put_front(table: Table, caller: u8, bytes: [u8; 255], n: usize) -> Reply
-    ensures { λ r. ⌜ r ≡ reply table (put caller (take n bytes)) ⌝ }
-{
-    table.put(caller, text::front(&bytes, n))
 }
 
 // Plays the call of a row.
 pub fn play(table: Table, row: CallRow) -> Played
     ensures { λ p. ⌜ p ≡ played table row ⌝ }
 {
-    let asked = row.asked;
+    let read = row.read;
     let bytes = row.bytes;
-    match asked {
-        Asked::Put(i, n) => quiet(put_front(table, i, bytes, n)),
-        Asked::Show(i) => showing(table, i),
-        Asked::Send(i, j) => quiet(table.send(i, j)),
-        Asked::Fetch(i, j) => quiet(table.fetch(i, j)),
-        Asked::Add(i, n, p) => quiet(table.add_tag(i, n, p)),
-        Asked::Drop(i, n, p) => quiet(table.drop_tag(i, n, p)),
-        Asked::Create(i, j, n) => quiet(table.create(i, j, n)),
-        Asked::Release(i, j) => quiet(table.release(i, j)),
-        Asked::Hand(i, j, n, p) => quiet(table.hand(i, j, n, p)),
-        Asked::Bad => unplayed(table),
+    match read {
+        CallRead::Call(c) => performed(table, c, bytes, row.len),
+        CallRead::Bad => unplayed(table),
     }
 }
 
@@ -110,7 +94,7 @@ pub struct Line {
 pub struct Step {
     pub table: Table,
     pub at: usize,
-    pub entry: [u8; 16],
+    pub entry: [u8; records::SIZE],
     pub line: Line,
 }
 
@@ -120,18 +104,18 @@ pub struct Ended {
     pub len: usize,
 }
 
-fn no_line() -> [u8; 162]
-    ensures { λ r. ⌜ r ≡ noLine ⌝ }
+fn blank_line() -> [u8; 162]
+    ensures { λ r. ⌜ r ≡ blankLine ⌝ }
 {
     [0u8; 162]
 }
 
 // The line of a record and of the first n bytes of a buffer.
-fn line_of(entry: [u8; 16], buffer: [u8; 64], n: usize) -> Line
+fn line_of(entry: [u8; records::SIZE], buffer: [u8; 64], n: usize) -> Line
     ensures { λ r. ⌜ r ≡ asLine (callLine entry (take n buffer)) ⌝ }
 {
-    let mut bytes = no_line();
-    let len = print::call_line(&entry, text::front(&buffer, n), &mut bytes);
+    let mut bytes = blank_line();
+    let len = print::call_line(&entry, handing::front(&buffer, n), &mut bytes);
     Line {
         bytes: bytes,
         len: len,
@@ -156,29 +140,11 @@ pub fn play_at(text: &[u8], names: usize, at: usize, table: Table) -> Step
     }
 }
 
-// Puts a record behind the first n bytes of a buffer, and answers where it ends; where it has no room, nothing and n.
-fn append(out: &mut [u8], n: usize, entry: [u8; 16]) -> usize
-    ensures { λ r. ⌜ (now (out .exit) ≡ appended (now (out .entry)) n entry) × (r ≡ appendedAt (now (out .entry)) n) × (length entry ≡ 16) ⌝ }
-{
-    if out.len() < 16 {
-        return n;
-    }
-    if out.len() - 16 < n {
-        return n;
-    }
-    let mut i = 0;
-    while i < 16 {
-        out[n + i] = entry[i];
-        i += 1;
-    }
-    n + 16
-}
-
 // Plays all calls of a text from a table on. Their records go to the front of a lent buffer, in order, as far as they have
 // room there.
 pub fn play_calls(text: &[u8], start: Table, out: &mut [u8]) -> Ended
     ensures { λ r. ⌜ r ≡ endedOf (now (text .entry)) start (length (now (out .entry))) ⌝ }
-    ensures { λ _. ⌜ now (out .exit) ≡ filled (listed (now (text .entry)) start (length (now (out .entry)))) (now (out .entry)) ⌝ }
+    ensures { λ _. ⌜ now (out .exit) ≡ filled (recordsWithin (now (text .entry)) start (length (now (out .entry)))) (now (out .entry)) ⌝ }
 {
     let names = load::calls_at(text);
     let mut table = start;
@@ -187,7 +153,7 @@ pub fn play_calls(text: &[u8], start: Table, out: &mut [u8]) -> Ended
     while at < text.len() {
         let s = play_at(text, names, at, table);
         let entry = s.entry;
-        n = append(out, n, entry);
+        n = records::append(out, n, entry);
         let next = s.table;
         table = next;
         at = s.at;

@@ -1,13 +1,13 @@
 -- What an answer says of the reading behind it, and the bytes of a row.
 -- Assumes nothing.
-use mathlib.Core.Path.{_≡_, refl, sym, ap, ap₂, _∙_}
-use mathlib.Core.Bool.{Bool, true, false, cond, not, _&&_}
-use mathlib.Core.List.{List, [], _∷_, _++_, append-nil}
+use mathlib.Core.Path.{_≡_, refl, sym, ap, _∙_}
+use mathlib.Core.Bool.{true, not}
+use mathlib.Core.List.{List, _∷_, _++_, append-nil}
 use mathlib.Core.Option.{Option, none, some}
 use Prim.Native.Nat.{ℕ, zero, suc, _+_, _-_, _≤_}
 use native.Mathlib.Omega.{arith}
 use lib.Dec.{leb}
-use lib.ListN.{length, take, replicate, length-append, length-replicate}
+use lib.ListN.{length, take, replicate}
 use lib.Seq.{take-append-add, take-all}
 use borrow.Author.Tests.{leb-true}
 use Rattle.rules.specs.declared.Kind.{Kind}
@@ -15,8 +15,8 @@ use Rattle.rules.specs.Table.{isFree}
 use Rattle.rules.proofs.Facts.{and-left, and-right}
 use Rattle.label.specs.declared.Label.{Label}
 use Rattle.entity.specs.declared.Entity.{Entity}
-use Rattle.entity.specs.Block.{padded}
-use Rattle.text.specs.Bytes.{eqBytes, setOf, dash}
+use Rattle.block.specs.Block.{padded}
+use Rattle.text.specs.Bytes.{hexSetOf}
 use Rattle.text.specs.Lines.{under}
 use Rattle.text.specs.declared.Number.{Number}
 use Rattle.text.specs.declared.Number.the-variants as Number
@@ -28,14 +28,14 @@ use Rattle.text.specs.Answers.{asNumber, asTags, asData, room}
 use Rattle.text.proofs.Laws.{length-room}
 use Rattle.rows.specs.Options.{_>>=_}
 use Rattle.rows.specs.Names.{secName, intName, saName, sdName, iaName, idName}
-use Rattle.rows.specs.Entities.{entityFormed, entityIn, asFound}
-use Rattle.rows.specs.Calls.{usesData, dataIf, callAs, asNamed, bytesPut}
-use Rattle.rows.specs.declared.Found.{Found}
-use Rattle.rows.specs.declared.Found.the-variants as Found
-use Rattle.rows.specs.declared.Form.{Form}
-use Rattle.rows.specs.declared.Form.the-variants as Form
-use Rattle.rows.specs.declared.Named.{Named}
-use Rattle.rows.specs.declared.Named.the-variants as Named
+use Rattle.rows.specs.Entities.{entityFormed, entityIn, asEntityRead}
+use Rattle.rows.specs.Calls.{asNameRead}
+use Rattle.rows.specs.declared.EntityRead.{EntityRead}
+use Rattle.rows.specs.declared.EntityRead.the-variants as EntityRead
+use Rattle.rows.specs.declared.CallName.{CallName}
+use Rattle.rows.specs.declared.CallName.the-variants as CallName
+use Rattle.rows.specs.declared.NameRead.{NameRead}
+use Rattle.rows.specs.declared.NameRead.the-variants as NameRead
 
 none-some : {x : Entity} → none ≡ some x → ⊥
 none-some {x} q = let z : _≡_ {A = ℕ} 0 1 = cc in omega arith
@@ -61,30 +61,30 @@ pub tags-none : {r : Tags} (o : Option Label) → r ≡ asTags o → r ≡ Tags.
 tags-none none e f = refl
 tags-none (some m) e f = cc
 
-pub found-some : {r : Found} {x : Entity} (o : Option Entity) → r ≡ asFound o → r ≡ Found.Entity x → o ≡ some x
+pub found-some : {r : EntityRead} {x : Entity} (o : Option Entity) → r ≡ asEntityRead o → r ≡ EntityRead.Entity x → o ≡ some x
 found-some none e f = cc
 found-some (some m) e f = cc
 
-pub found-none : {r : Found} (o : Option Entity) → r ≡ asFound o → r ≡ Found.Bad → o ≡ none
+pub found-none : {r : EntityRead} (o : Option Entity) → r ≡ asEntityRead o → r ≡ EntityRead.Bad → o ≡ none
 found-none none e f = refl
 found-none (some m) e f = cc
 
-pub named-some : {r : Named} {k : Form} (o : Option Form) → r ≡ asNamed o → r ≡ Named.Call k → o ≡ some k
+pub named-some : {r : NameRead} {k : CallName} (o : Option CallName) → r ≡ asNameRead o → r ≡ NameRead.Call k → o ≡ some k
 named-some none e f = cc
 named-some (some m) e f = cc
 
-pub named-none : {r : Named} (o : Option Form) → r ≡ asNamed o → r ≡ Named.Bad → o ≡ none
+pub named-none : {r : NameRead} (o : Option CallName) → r ≡ asNameRead o → r ≡ NameRead.Bad → o ≡ none
 named-none none e f = refl
 named-none (some m) e f = cc
 
 -- data that was read: n bytes
-pub record Read (o : Option (List ℕ)) (d : Data) (n : ℕ) : Type 0 where
+pub record DataRead (o : Option (List ℕ)) (d : Data) (n : ℕ) : Type 0 where
   pub bs : List ℕ
   pub is : o ≡ some bs
   pub count : n ≡ length bs
   pub kept : d .bytes ≡ room bs
 
-pub data-some : (d : Data) (n : ℕ) (o : Option (List ℕ)) → d ≡ asData o → d .size ≡ Size.Bytes n → Read o d n
+pub data-some : (d : Data) (n : ℕ) (o : Option (List ℕ)) → d ≡ asData o → d .size ≡ Size.Bytes n → DataRead o d n
 data-some d n none e f = let q = ap (λ (x : Data). x .size) e in let z : _≡_ {A = ℕ} 0 1 = cc in absurd (omega arith)
 data-some d n (some bs) e f =
     let q = ap (λ (x : Data). x .size) e in
@@ -131,21 +131,4 @@ chain-len (some x0) (some x1) (some x2) (some x3) (some x4) (some x5) k n e q = 
 
 pub entity-len : (hs fs : List (List ℕ)) (k : Kind) (n : ℕ) (e : Entity) → entityIn hs fs k n ≡ some e → e .len ≡ n
 unfolding entityIn
-entity-len hs fs k n e = chain-len (setOf (under secName hs fs)) (setOf (under intName hs fs)) (setOf (under saName hs fs)) (setOf (under sdName hs fs)) (setOf (under iaName hs fs)) (setOf (under idName hs fs)) k n e
-
-only-dash : (t : Bool) {bs : List ℕ} → cond t (some []) none ≡ some bs → [] ≡ bs
-only-dash true e = cc
-only-dash false e = cc
-
--- the bytes of a row are those put
-pub put-bytes : (k : Form) (f bs : List ℕ) (i j n p : ℕ) → dataIf (usesData k) f ≡ some bs → bytesPut (callAs k i j n p bs) ≡ bs
-unfolding dataIf
-put-bytes Form.Put f bs i j n p e = refl
-put-bytes Form.Show f bs i j n p e = only-dash (eqBytes f dash) e
-put-bytes Form.Send f bs i j n p e = only-dash (eqBytes f dash) e
-put-bytes Form.Fetch f bs i j n p e = only-dash (eqBytes f dash) e
-put-bytes Form.Add f bs i j n p e = only-dash (eqBytes f dash) e
-put-bytes Form.Drop f bs i j n p e = only-dash (eqBytes f dash) e
-put-bytes Form.Create f bs i j n p e = only-dash (eqBytes f dash) e
-put-bytes Form.Release f bs i j n p e = only-dash (eqBytes f dash) e
-put-bytes Form.Hand f bs i j n p e = only-dash (eqBytes f dash) e
+entity-len hs fs k n e = chain-len (hexSetOf (under secName hs fs)) (hexSetOf (under intName hs fs)) (hexSetOf (under saName hs fs)) (hexSetOf (under sdName hs fs)) (hexSetOf (under iaName hs fs)) (hexSetOf (under idName hs fs)) k n e

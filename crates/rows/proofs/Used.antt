@@ -2,15 +2,15 @@
 -- Assumes nothing.
 use mathlib.Core.Path.{refl}
 use Rattle.rows.specs.Calls.{UsedFields}
-use Rattle.rows.specs.declared.Form.the-variants as Form
+use Rattle.rows.specs.declared.CallName.the-variants as CallName
 
 pub used-fields : UsedFields
-used-fields Form.Put i j n p bs = (refl, refl, refl)
-used-fields Form.Show i j n p bs = (refl, refl, refl)
-used-fields Form.Send i j n p bs = (refl, refl, refl)
-used-fields Form.Fetch i j n p bs = (refl, refl, refl)
-used-fields Form.Add i j n p bs = (refl, refl, refl)
-used-fields Form.Drop i j n p bs = (refl, refl, refl)
-used-fields Form.Create i j n p bs = (refl, refl, refl)
-used-fields Form.Release i j n p bs = (refl, refl, refl)
-used-fields Form.Hand i j n p bs = (refl, refl, refl)
+used-fields CallName.Put i j n p bs = (refl, refl, refl)
+used-fields CallName.Show i j n p bs = (refl, refl, refl)
+used-fields CallName.Send i j n p bs = (refl, refl, refl)
+used-fields CallName.Fetch i j n p bs = (refl, refl, refl)
+used-fields CallName.Add i j n p bs = (refl, refl, refl)
+used-fields CallName.Drop i j n p bs = (refl, refl, refl)
+used-fields CallName.Create i j n p bs = (refl, refl, refl)
+used-fields CallName.Release i j n p bs = (refl, refl, refl)
+used-fields CallName.Hand i j n p bs = (refl, refl, refl)

@@ -7,7 +7,10 @@ use mathlib.Core.List.{List, []}
 use mathlib.Core.Option.{Option, none, some}
 use lib.ListN.{length, replicate}
 use lib.Dec.{eqb}
-use Rattle.rules.specs.Calls.{Call, fieldsOf, put, show, send, fetch, addTag, dropTag, create, release, hand}
+use Rattle.rules.specs.declared.Call.{Call as Named}
+use Rattle.rules.specs.declared.Call.the-variants as Named
+use Rattle.rules.specs.Calls.{Call, fieldsOf}
+use Rattle.label.specs.Calls.{callWith}
 use Rattle.label.specs.Words.{words}
 use Rattle.text.specs.Bytes.{eqBytes, decimalOf, dataOf, dash}
 use Rattle.text.specs.Lines.{under}
@@ -15,71 +18,70 @@ use Rattle.text.specs.Answers.{room, noRoom}
 use Rattle.rows.specs.Options.{_>>=_}
 use Rattle.rows.specs.Names.{callName, callerName, otherName, setName, tagName, dataName}
 use Rattle.rows.specs.Names.{putName, showName, sendName, fetchName, addName, dropName, createName, releaseName, handName}
-use Rattle.rows.specs.declared.Form.{Form}
-use Rattle.rows.specs.declared.Form.the-variants as Form
-use Rattle.rows.specs.declared.Named.{Named}
-use Rattle.rows.specs.declared.Named.the-variants as Named
-use Rattle.rows.specs.declared.Asked.{Asked}
-use Rattle.rows.specs.declared.Asked.the-variants as Asked
+use Rattle.rows.specs.declared.CallName.{CallName}
+use Rattle.rows.specs.declared.CallName.the-variants as CallName
+use Rattle.rows.specs.declared.NameRead.{NameRead}
+use Rattle.rows.specs.declared.NameRead.the-variants as NameRead
+use Rattle.rows.specs.declared.CallRead.the-variants as CallRead
 use Rattle.rows.specs.declared.CallRow.{CallRow}
 
 -- the call's name
-unfoldable pub formOf : List ℕ → Option Form
-formOf f =
-    cond (eqBytes f putName) (some Form.Put)
-    (cond (eqBytes f showName) (some Form.Show)
-    (cond (eqBytes f sendName) (some Form.Send)
-    (cond (eqBytes f fetchName) (some Form.Fetch)
-    (cond (eqBytes f addName) (some Form.Add)
-    (cond (eqBytes f dropName) (some Form.Drop)
-    (cond (eqBytes f createName) (some Form.Create)
-    (cond (eqBytes f releaseName) (some Form.Release)
-    (cond (eqBytes f handName) (some Form.Hand) none))))))))
+unfoldable pub callNamed : List ℕ → Option CallName
+callNamed f =
+    cond (eqBytes f putName) (some CallName.Put)
+    (cond (eqBytes f showName) (some CallName.Show)
+    (cond (eqBytes f sendName) (some CallName.Send)
+    (cond (eqBytes f fetchName) (some CallName.Fetch)
+    (cond (eqBytes f addName) (some CallName.Add)
+    (cond (eqBytes f dropName) (some CallName.Drop)
+    (cond (eqBytes f createName) (some CallName.Create)
+    (cond (eqBytes f releaseName) (some CallName.Release)
+    (cond (eqBytes f handName) (some CallName.Hand) none))))))))
 
 -- the calls that use the other's slot, the set field, the tag and the data
-abbrev pub usesOther : Form → Bool
-usesOther Form.Put = false
-usesOther Form.Show = false
-usesOther Form.Send = true
-usesOther Form.Fetch = true
-usesOther Form.Add = false
-usesOther Form.Drop = false
-usesOther Form.Create = true
-usesOther Form.Release = true
-usesOther Form.Hand = true
+abbrev pub usesOther : CallName → Bool
+usesOther CallName.Put = false
+usesOther CallName.Show = false
+usesOther CallName.Send = true
+usesOther CallName.Fetch = true
+usesOther CallName.Add = false
+usesOther CallName.Drop = false
+usesOther CallName.Create = true
+usesOther CallName.Release = true
+usesOther CallName.Hand = true
 
-abbrev pub usesSet : Form → Bool
-usesSet Form.Put = false
-usesSet Form.Show = false
-usesSet Form.Send = false
-usesSet Form.Fetch = false
-usesSet Form.Add = true
-usesSet Form.Drop = true
-usesSet Form.Create = true
-usesSet Form.Release = false
-usesSet Form.Hand = true
+abbrev pub usesSet : CallName → Bool
+usesSet CallName.Put = false
+usesSet CallName.Show = false
+usesSet CallName.Send = false
+usesSet CallName.Fetch = false
+usesSet CallName.Add = true
+usesSet CallName.Drop = true
+usesSet CallName.Create = true
+usesSet CallName.Release = false
+usesSet CallName.Hand = true
 
-abbrev pub usesTag : Form → Bool
-usesTag Form.Put = false
-usesTag Form.Show = false
-usesTag Form.Send = false
-usesTag Form.Fetch = false
-usesTag Form.Add = true
-usesTag Form.Drop = true
-usesTag Form.Create = false
-usesTag Form.Release = false
-usesTag Form.Hand = true
+abbrev pub usesTag : CallName → Bool
+usesTag CallName.Put = false
+usesTag CallName.Show = false
+usesTag CallName.Send = false
+usesTag CallName.Fetch = false
+usesTag CallName.Add = true
+usesTag CallName.Drop = true
+usesTag CallName.Create = false
+usesTag CallName.Release = false
+usesTag CallName.Hand = true
 
-abbrev pub usesData : Form → Bool
-usesData Form.Put = true
-usesData Form.Show = false
-usesData Form.Send = false
-usesData Form.Fetch = false
-usesData Form.Add = false
-usesData Form.Drop = false
-usesData Form.Create = false
-usesData Form.Release = false
-usesData Form.Hand = false
+abbrev pub usesData : CallName → Bool
+usesData CallName.Put = true
+usesData CallName.Show = false
+usesData CallName.Send = false
+usesData CallName.Fetch = false
+usesData CallName.Add = false
+usesData CallName.Drop = false
+usesData CallName.Create = false
+usesData CallName.Release = false
+usesData CallName.Hand = false
 
 -- a used field is a number; an unused one is `-`, and stands for 255
 unfoldable pub numberIf : Bool → List ℕ → Option ℕ
@@ -93,68 +95,53 @@ dataIf used f = cond used (dataOf 255 f) (cond (eqBytes f dash) (some []) none)
 unfoldable pub showBuffer : List ℕ
 showBuffer = replicate 64 0
 
--- the call of a form, by a caller, with the other's slot, the set field, the tag and the data as far as it uses them
-abbrev pub callAs : Form → ℕ → ℕ → ℕ → ℕ → List ℕ → Call words
-callAs Form.Put i j n p bs = put i bs
-callAs Form.Show i j n p bs = show i showBuffer
-callAs Form.Send i j n p bs = send i j
-callAs Form.Fetch i j n p bs = fetch i j
-callAs Form.Add i j n p bs = addTag i n p
-callAs Form.Drop i j n p bs = dropTag i n p
-callAs Form.Create i j n p bs = create i j n
-callAs Form.Release i j n p bs = release i j
-callAs Form.Hand i j n p bs = hand i j n p
+-- the call of a name, by a caller, with the other's slot, the set field and the tag as far as it uses them
+abbrev pub callAs : CallName → ℕ → ℕ → ℕ → ℕ → Named
+callAs CallName.Put i j n p = Named.Put i
+callAs CallName.Show i j n p = Named.Show i
+callAs CallName.Send i j n p = Named.Send i j
+callAs CallName.Fetch i j n p = Named.Fetch i j
+callAs CallName.Add i j n p = Named.Add i n p
+callAs CallName.Drop i j n p = Named.Drop i n p
+callAs CallName.Create i j n p = Named.Create i j n
+callAs CallName.Release i j n p = Named.Release i j
+callAs CallName.Hand i j n p = Named.Hand i j n p
+
+-- what a line says: a call, and the bytes put; and the call as the rules have it
+pub record CallSaid : Type 0 where
+  pub call : Named
+  pub bytes : List ℕ
+
+abbrev pub callIn : CallSaid → Call words
+callIn q = callWith (q .call) (q .bytes) showBuffer
 
 -- the line whose fields are fs, under the names hs
 module _ (hs fs : List (List ℕ)) where
-  unfoldable pub callFrom : Form → Option (Call words)
+  unfoldable pub callFrom : CallName → Option CallSaid
   callFrom k = do
     i ← decimalOf 255 (under callerName hs fs)
     j ← numberIf (usesOther k) (under otherName hs fs)
     n ← numberIf (usesSet k) (under setName hs fs)
     p ← numberIf (usesTag k) (under tagName hs fs)
     bs ← dataIf (usesData k) (under dataName hs fs)
-    some (callAs k i j n p bs)
+    some (record { call = callAs k i j n p; bytes = bs })
 
-  unfoldable pub callOf : Option (Call words)
-  callOf = cond (eqb (length fs) 6) (formOf (under callName hs fs) >>= callFrom) none
+  unfoldable pub callOf : Option CallSaid
+  callOf = cond (eqb (length fs) 6) (callNamed (under callName hs fs) >>= callFrom) none
 
 -- The fields that a line must give are those that the call's record repeats
 abbrev pub UsedFields : Type 0
-UsedFields = (k : Form) (i j n p : ℕ) (bs : List ℕ)
-    → (fieldsOf (callAs k i j n p bs) .other ≡ cond (usesOther k) j 255)
-    × (fieldsOf (callAs k i j n p bs) .set ≡ cond (usesSet k) n 255)
-    × (fieldsOf (callAs k i j n p bs) .tag ≡ cond (usesTag k) (some p) none)
+UsedFields = (k : CallName) (i j n p : ℕ) (bs : List ℕ)
+    → (fieldsOf (callIn (record { call = callAs k i j n p; bytes = bs })) .other ≡ cond (usesOther k) j 255)
+    × (fieldsOf (callIn (record { call = callAs k i j n p; bytes = bs })) .set ≡ cond (usesSet k) n 255)
+    × (fieldsOf (callIn (record { call = callAs k i j n p; bytes = bs })) .tag ≡ cond (usesTag k) (some p) none)
 
 -- ---- what the code answers
 
-abbrev pub asNamed : Option Form → Named
-asNamed none = Named.Bad
-asNamed (some k) = Named.Call k
+abbrev pub asNameRead : Option CallName → NameRead
+asNameRead none = NameRead.Bad
+asNameRead (some k) = NameRead.Call k
 
--- the call, its bytes put apart
-abbrev pub asAsked : Call words → Asked
-asAsked (put i bs) = Asked.Put i (length bs)
-asAsked (show i buf) = Asked.Show i
-asAsked (send i j) = Asked.Send i j
-asAsked (fetch i j) = Asked.Fetch i j
-asAsked (addTag i n p) = Asked.Add i n p
-asAsked (dropTag i n p) = Asked.Drop i n p
-asAsked (create i j n) = Asked.Create i j n
-asAsked (release i j) = Asked.Release i j
-asAsked (hand i j n p) = Asked.Hand i j n p
-
-abbrev pub bytesPut : Call words → List ℕ
-bytesPut (put i bs) = bs
-bytesPut (show i buf) = []
-bytesPut (send i j) = []
-bytesPut (fetch i j) = []
-bytesPut (addTag i n p) = []
-bytesPut (dropTag i n p) = []
-bytesPut (create i j n) = []
-bytesPut (release i j) = []
-bytesPut (hand i j n p) = []
-
-abbrev pub asCallRow : Option (Call words) → CallRow
-asCallRow none = record { asked = Asked.Bad; bytes = noRoom }
-asCallRow (some c) = record { asked = asAsked c; bytes = room (bytesPut c) }
+abbrev pub asCallRow : Option CallSaid → CallRow
+asCallRow none = record { read = CallRead.Bad; len = 0; bytes = noRoom }
+asCallRow (some q) = record { read = CallRead.Call (q .call); len = length (q .bytes); bytes = room (q .bytes) }

@@ -1,18 +1,16 @@
 // One line of values: an entity of the table, or a call.
 ghost use mathlib.Core.Path.{_≡_};
-ghost use mathlib.Core.List.{List};
-ghost use mathlib.Core.Option.{none, some};
-ghost use Prim.Native.Nat.{ℕ};
-ghost use lib.ListN.{length};
-ghost use Rattle.entity.specs.Block.{padded};
-ghost use Rattle.text.specs.Bytes.{setOf};
-ghost use Rattle.text.specs.Lines.{fieldsOf, namesOnce, under};
+ghost use mathlib.Core.Option.{none};
+ghost use Rattle.block.specs.Block.{padded};
+ghost use Rattle.text.specs.Bytes.{hexSetOf};
+ghost use Rattle.text.specs.Lines.{fieldsIn, namesOnce, under};
 ghost use Rattle.text.specs.Answers.{asNumber, asTags, asData};
 ghost use Rattle.rows.specs.Names.{entityNames, groupNames, callNames};
-ghost use Rattle.rows.specs.Entities.{kindOf, entityFormed, entityIn, entityOf, asFound, asEntityRow};
-ghost use Rattle.rows.specs.Calls.{formOf, usesOther, usesSet, usesTag, usesData, numberIf, dataIf, callAs, callOf, asNamed, asAsked, asCallRow};
+ghost use Rattle.rows.specs.Entities.{kindNamed, entityFormed, entityIn, entityOf, asEntityRead, asEntityRow};
+ghost use Rattle.rows.specs.Calls.{callNamed, usesOther, usesSet, usesTag, usesData, numberIf, dataIf, callAs, callOf, asNameRead, asCallRow};
 use entity::Entity;
 use label::Label;
+use rules::Call;
 use rules::Kind;
 use text::Data;
 use text::Number;
@@ -20,7 +18,7 @@ use text::Size;
 use text::Tags;
 
 // An entity by its columns.
-pub enum Found {
+pub enum EntityRead {
     Entity(Entity),
     Bad,
 }
@@ -38,7 +36,7 @@ pub struct EntityRow {
 }
 
 // The nine calls by name.
-pub enum Form {
+pub enum CallName {
     Put,
     Show,
     Send,
@@ -50,54 +48,46 @@ pub enum Form {
     Hand,
 }
 
-pub enum Named {
-    Call(Form),
+pub enum NameRead {
+    Call(CallName),
     Bad,
 }
 
-// A call: the caller, the other's slot, the set field and the tag, as far as it uses them; put has the number of its bytes.
-pub enum Asked {
-    Put(u8, usize),
-    Show(u8),
-    Send(u8, u8),
-    Fetch(u8, u8),
-    Add(u8, u8, u8),
-    Drop(u8, u8, u8),
-    Create(u8, u8, u8),
-    Release(u8, u8),
-    Hand(u8, u8, u8, u8),
+pub enum CallRead {
+    Call(Call),
     Bad,
 }
 
-// What a line of the calls says, and the bytes put, with zeros after them.
+// What a line of the calls says: a call, and the bytes put, the first `len` of some with zeros after them.
 pub struct CallRow {
-    pub asked: Asked,
+    pub read: CallRead,
+    pub len: usize,
     pub bytes: [u8; 255],
 }
 
 // Whether a line is the names of the entities, each once.
 pub fn is_entity_header(line: &[u8]) -> bool
-    ensures { λ r. ⌜ r ≡ namesOnce entityNames (fieldsOf (now (line .entry))) ⌝ }
+    ensures { λ r. ⌜ r ≡ namesOnce entityNames (fieldsIn (now (line .entry))) ⌝ }
 {
     text::is_header(line, b"slot kind sec int sa sd ia id data")
 }
 
 // Whether a line is the name of the groups.
 pub fn is_group_header(line: &[u8]) -> bool
-    ensures { λ r. ⌜ r ≡ namesOnce groupNames (fieldsOf (now (line .entry))) ⌝ }
+    ensures { λ r. ⌜ r ≡ namesOnce groupNames (fieldsIn (now (line .entry))) ⌝ }
 {
     text::is_header(line, b"tags")
 }
 
 // Whether a line is the names of the calls, each once.
 pub fn is_call_header(line: &[u8]) -> bool
-    ensures { λ r. ⌜ r ≡ namesOnce callNames (fieldsOf (now (line .entry))) ⌝ }
+    ensures { λ r. ⌜ r ≡ namesOnce callNames (fieldsIn (now (line .entry))) ⌝ }
 {
     text::is_header(line, b"call caller other set tag data")
 }
 
 fn kind_of(f: &[u8]) -> Kind
-    ensures { λ r. ⌜ r ≡ kindOf (now (f .entry)) ⌝ }
+    ensures { λ r. ⌜ r ≡ kindNamed (now (f .entry)) ⌝ }
 {
     if text::same(f, b"item") {
         return Kind::Item;
@@ -111,39 +101,38 @@ fn kind_of(f: &[u8]) -> Kind
 fn is_formed(e: Entity) -> bool
     ensures { λ r. ⌜ r ≡ entityFormed e ⌝ }
 {
-    let k = e.kind;
-    !entity::is_free(k) & e.is_formed()
+    !e.is_free() & e.is_formed()
 }
 
 fn set_under(header: &[u8], row: &[u8], name: &[u8]) -> Tags
-    ensures { λ r. ⌜ r ≡ asTags (setOf (under (now (name .entry)) (fieldsOf (now (header .entry))) (fieldsOf (now (row .entry))))) ⌝ }
+    ensures { λ r. ⌜ r ≡ asTags (hexSetOf (under (now (name .entry)) (fieldsIn (now (header .entry))) (fieldsIn (now (row .entry))))) ⌝ }
 {
     text::hex_set(text::value(header, row, name))
 }
 
 // The entity of a kind, with a content of so many bytes, by the sets of a line.
-fn entity_in(header: &[u8], row: &[u8], kind: Kind, len: usize) -> Found
-    ensures { λ r. ⌜ r ≡ asFound (entityIn (fieldsOf (now (header .entry))) (fieldsOf (now (row .entry))) kind len) ⌝ }
+fn entity_in(header: &[u8], row: &[u8], kind: Kind, len: usize) -> EntityRead
+    ensures { λ r. ⌜ r ≡ asEntityRead (entityIn (fieldsIn (now (header .entry))) (fieldsIn (now (row .entry))) kind len) ⌝ }
 {
     let Tags::Set(sec) = set_under(header, row, b"sec") else {
-        return Found::Bad;
+        return EntityRead::Bad;
     };
     let Tags::Set(int) = set_under(header, row, b"int") else {
-        return Found::Bad;
+        return EntityRead::Bad;
     };
     let Tags::Set(sa) = set_under(header, row, b"sa") else {
-        return Found::Bad;
+        return EntityRead::Bad;
     };
     let Tags::Set(sd) = set_under(header, row, b"sd") else {
-        return Found::Bad;
+        return EntityRead::Bad;
     };
     let Tags::Set(ia) = set_under(header, row, b"ia") else {
-        return Found::Bad;
+        return EntityRead::Bad;
     };
     let Tags::Set(id) = set_under(header, row, b"id") else {
-        return Found::Bad;
+        return EntityRead::Bad;
     };
-    Found::Entity(Entity {
+    EntityRead::Entity(Entity {
         kind: kind,
         sec: sec,
         int: int,
@@ -159,7 +148,7 @@ fn entity_in(header: &[u8], row: &[u8], kind: Kind, len: usize) -> Found
 fn no_entity() -> EntityRow
     ensures { λ r. ⌜ r ≡ asEntityRow none ⌝ }
 {
-    let block = entity::no_block();
+    let block = block::empty();
     EntityRow {
         placed: Placed::Bad,
         block: block,
@@ -171,12 +160,12 @@ fn block_of(content: Data) -> [u8; 64]
     ensures { λ r. ⌜ r ≡ padded (content .bytes) ⌝ }
 {
     let bytes = content.bytes;
-    entity::pad(&bytes)
+    block::pad(&bytes)
 }
 
 // The entity of a line, by the names of its columns.
 pub fn entity_row(header: &[u8], row: &[u8]) -> EntityRow
-    ensures { λ r. ⌜ r ≡ asEntityRow (entityOf (fieldsOf (now (header .entry))) (fieldsOf (now (row .entry)))) ⌝ }
+    ensures { λ r. ⌜ r ≡ asEntityRow (entityOf (fieldsIn (now (header .entry))) (fieldsIn (now (row .entry)))) ⌝ }
 {
     if text::count(row) != 9 {
         return no_entity();
@@ -190,7 +179,7 @@ pub fn entity_row(header: &[u8], row: &[u8]) -> EntityRow
         return no_entity();
     };
     let kind = kind_of(text::value(header, row, b"kind"));
-    let Found::Entity(e) = entity_in(header, row, kind, len) else {
+    let EntityRead::Entity(e) = entity_in(header, row, kind, len) else {
         return no_entity();
     };
     if !is_formed(e) {
@@ -203,100 +192,100 @@ pub fn entity_row(header: &[u8], row: &[u8]) -> EntityRow
     }
 }
 
-fn form_of(f: &[u8]) -> Named
-    ensures { λ r. ⌜ r ≡ asNamed (formOf (now (f .entry))) ⌝ }
+fn call_named(f: &[u8]) -> NameRead
+    ensures { λ r. ⌜ r ≡ asNameRead (callNamed (now (f .entry))) ⌝ }
 {
     if text::same(f, b"put") {
-        return Named::Call(Form::Put);
+        return NameRead::Call(CallName::Put);
     }
     if text::same(f, b"show") {
-        return Named::Call(Form::Show);
+        return NameRead::Call(CallName::Show);
     }
     if text::same(f, b"send") {
-        return Named::Call(Form::Send);
+        return NameRead::Call(CallName::Send);
     }
     if text::same(f, b"fetch") {
-        return Named::Call(Form::Fetch);
+        return NameRead::Call(CallName::Fetch);
     }
     if text::same(f, b"add") {
-        return Named::Call(Form::Add);
+        return NameRead::Call(CallName::Add);
     }
     if text::same(f, b"drop") {
-        return Named::Call(Form::Drop);
+        return NameRead::Call(CallName::Drop);
     }
     if text::same(f, b"create") {
-        return Named::Call(Form::Create);
+        return NameRead::Call(CallName::Create);
     }
     if text::same(f, b"release") {
-        return Named::Call(Form::Release);
+        return NameRead::Call(CallName::Release);
     }
     if text::same(f, b"hand") {
-        return Named::Call(Form::Hand);
+        return NameRead::Call(CallName::Hand);
     }
-    Named::Bad
+    NameRead::Bad
 }
 
-fn uses_other(k: Form) -> bool
+fn uses_other(k: CallName) -> bool
     ensures { λ r. ⌜ r ≡ usesOther k ⌝ }
 {
     match k {
-        Form::Put => false,
-        Form::Show => false,
-        Form::Send => true,
-        Form::Fetch => true,
-        Form::Add => false,
-        Form::Drop => false,
-        Form::Create => true,
-        Form::Release => true,
-        Form::Hand => true,
+        CallName::Put => false,
+        CallName::Show => false,
+        CallName::Send => true,
+        CallName::Fetch => true,
+        CallName::Add => false,
+        CallName::Drop => false,
+        CallName::Create => true,
+        CallName::Release => true,
+        CallName::Hand => true,
     }
 }
 
-fn uses_set(k: Form) -> bool
+fn uses_set(k: CallName) -> bool
     ensures { λ r. ⌜ r ≡ usesSet k ⌝ }
 {
     match k {
-        Form::Put => false,
-        Form::Show => false,
-        Form::Send => false,
-        Form::Fetch => false,
-        Form::Add => true,
-        Form::Drop => true,
-        Form::Create => true,
-        Form::Release => false,
-        Form::Hand => true,
+        CallName::Put => false,
+        CallName::Show => false,
+        CallName::Send => false,
+        CallName::Fetch => false,
+        CallName::Add => true,
+        CallName::Drop => true,
+        CallName::Create => true,
+        CallName::Release => false,
+        CallName::Hand => true,
     }
 }
 
-fn uses_tag(k: Form) -> bool
+fn uses_tag(k: CallName) -> bool
     ensures { λ r. ⌜ r ≡ usesTag k ⌝ }
 {
     match k {
-        Form::Put => false,
-        Form::Show => false,
-        Form::Send => false,
-        Form::Fetch => false,
-        Form::Add => true,
-        Form::Drop => true,
-        Form::Create => false,
-        Form::Release => false,
-        Form::Hand => true,
+        CallName::Put => false,
+        CallName::Show => false,
+        CallName::Send => false,
+        CallName::Fetch => false,
+        CallName::Add => true,
+        CallName::Drop => true,
+        CallName::Create => false,
+        CallName::Release => false,
+        CallName::Hand => true,
     }
 }
 
-fn uses_data(k: Form) -> bool
+fn uses_data(k: CallName) -> bool
     ensures { λ r. ⌜ r ≡ usesData k ⌝ }
 {
     match k {
-        Form::Put => true,
-        Form::Show => false,
-        Form::Send => false,
-        Form::Fetch => false,
-        Form::Add => false,
-        Form::Drop => false,
-        Form::Create => false,
-        Form::Release => false,
-        Form::Hand => false,
+        CallName::Put => true,
+        CallName::Show => false,
+        CallName::Send => false,
+        CallName::Fetch => false,
+        CallName::Add => false,
+        CallName::Drop => false,
+        CallName::Create => false,
+        CallName::Release => false,
+        CallName::Hand => false,
     }
 }
 
@@ -326,19 +315,19 @@ fn data_if(used: bool, f: &[u8]) -> Data
     text::no_data()
 }
 
-fn asked_as(k: Form, i: u8, j: u8, n: u8, p: u8, len: usize) -> Asked
-    ensures { λ r. ⌜ ((bs : List ℕ) → length bs ≡ len → r ≡ asAsked (callAs k i j n p bs)) ⌝ }
+fn call_as(k: CallName, i: u8, j: u8, n: u8, p: u8) -> Call
+    ensures { λ r. ⌜ r ≡ callAs k i j n p ⌝ }
 {
     match k {
-        Form::Put => Asked::Put(i, len),
-        Form::Show => Asked::Show(i),
-        Form::Send => Asked::Send(i, j),
-        Form::Fetch => Asked::Fetch(i, j),
-        Form::Add => Asked::Add(i, n, p),
-        Form::Drop => Asked::Drop(i, n, p),
-        Form::Create => Asked::Create(i, j, n),
-        Form::Release => Asked::Release(i, j),
-        Form::Hand => Asked::Hand(i, j, n, p),
+        CallName::Put => Call::Put(i),
+        CallName::Show => Call::Show(i),
+        CallName::Send => Call::Send(i, j),
+        CallName::Fetch => Call::Fetch(i, j),
+        CallName::Add => Call::Add(i, n, p),
+        CallName::Drop => Call::Drop(i, n, p),
+        CallName::Create => Call::Create(i, j, n),
+        CallName::Release => Call::Release(i, j),
+        CallName::Hand => Call::Hand(i, j, n, p),
     }
 }
 
@@ -349,19 +338,20 @@ fn no_call() -> CallRow
     let none = text::no_data();
     let bytes = none.bytes;
     CallRow {
-        asked: Asked::Bad,
+        read: CallRead::Bad,
+        len: 0,
         bytes: bytes,
     }
 }
 
 // The call of a line, by the names of its columns.
 pub fn call_row(header: &[u8], row: &[u8]) -> CallRow
-    ensures { λ r. ⌜ r ≡ asCallRow (callOf (fieldsOf (now (header .entry))) (fieldsOf (now (row .entry)))) ⌝ }
+    ensures { λ r. ⌜ r ≡ asCallRow (callOf (fieldsIn (now (header .entry))) (fieldsIn (now (row .entry)))) ⌝ }
 {
     if text::count(row) != 6 {
         return no_call();
     }
-    let Named::Call(k) = form_of(text::value(header, row, b"call")) else {
+    let NameRead::Call(k) = call_named(text::value(header, row, b"call")) else {
         return no_call();
     };
     let Number::Value(i) = text::decimal(text::value(header, row, b"caller"), 255) else {
@@ -383,7 +373,8 @@ pub fn call_row(header: &[u8], row: &[u8]) -> CallRow
         return no_call();
     };
     CallRow {
-        asked: asked_as(k, i, j, n, p, len),
+        read: CallRead::Call(call_as(k, i, j, n, p)),
+        len: len,
         bytes: bytes,
     }
 }

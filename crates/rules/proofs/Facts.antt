@@ -1,10 +1,12 @@
--- Facts on Booleans, and on refusals in order.
+-- Facts on Booleans, on refusals in order, and on arrays of structs.
 -- Assumes nothing.
 use mathlib.Core.Path.{_≡_, refl, sym, _∙_}
 use mathlib.Core.Bool.{Bool, true, false, cond, not, _&&_, _||_}
+use mathlib.Core.List.{List, map}
 use Prim.Native.Nat.{ℕ}
 use native.Mathlib.Omega.{arith}
 use lib.Dec.{eqb}
+use lib.ListN.{length, length-map}
 use Rattle.rules.specs.declared.Outcome.{Outcome}
 use Rattle.rules.specs.declared.Outcome.the-variants.{Allowed, Refused}
 use Rattle.rules.specs.Refusals.{Refusals, allow, _if_else_, first}
@@ -101,3 +103,8 @@ refused-not-allowed n e = let z : _≡_ {A = ℕ} 0 1 = cc in omega arith
 pub guard : (n : ℕ) (b : Bool) (x y : Outcome) → (b ≡ false → x ≡ y) → cond b (Refused n) x ≡ cond b (Refused n) y
 guard n true x y h = refl
 guard n false x y h = h refl
+
+-- ---- an array of structs: its length is that of what stands for it
+
+pub length-mapped : (X Y : Type 0) (f : X → Y) (l : List X) (n : ℕ) → length (map f l) ≡ n → length l ≡ n
+length-mapped X Y f l n e = sym (length-map l f) ∙ e

@@ -1,25 +1,22 @@
 -- No sequence of calls takes an accepted table to one that is not.
 -- Assumes nothing.
-use mathlib.Core.Path.{_≡_, refl, ap, sym, _∙_}
-use mathlib.Core.Bool.{Bool, true, false, cond, not, _&&_, _||_}
+use mathlib.Core.Path.{_≡_, refl, _∙_}
+use mathlib.Core.Bool.{Bool, true, false, cond, not, _||_}
 use mathlib.Core.List.{List, [], _∷_}
-use Prim.Native.Nat.{ℕ, _<_}
-use native.Mathlib.Omega.{arith}
-use lib.Dec.{ltb, leb, eqb}
-use borrow.Author.Tests.{ltb-true, lt-ltb, leb-true, le-leb}
+use Prim.Native.Nat.{ℕ}
+use lib.Dec.{ltb, eqb}
+use borrow.Author.Tests.{ltb-true, lt-ltb}
 use Rattle.rules.specs.declared.Kind.{Kind}
 use Rattle.rules.specs.declared.Kind.the-variants.{Free, Item, Program}
-use Rattle.rules.specs.Bounded.{allBelow}
 use Rattle.rules.specs.Labels.{Labels}
-use Rattle.rules.specs.Table.{isFree, isProgram, Rights, Slot, Tables, noRights, free, held, keepsTo, keepsAll, slotKeeps, at, accepted}
-use Rattle.rules.specs.Calls.{Call, put, show, send, fetch, addTag, dropTag, create, release, hand, callerOf, otherOf, newKind, target, written}
-use Rattle.rules.specs.Refusals.{refusals, verdict, step}
-use Rattle.rules.specs.Runs.{final}
+use Rattle.rules.specs.Table.{isFree, isProgram, Rights, Slot, Tables, held, keepsEach, keepsAll, slotKeeps, at, accepted}
+use Rattle.rules.specs.Calls.{Call, put, show, send, fetch, addTag, dropTag, create, release, hand, callerOf, otherOf, newKind, addRight, relabel, created, written}
+use Rattle.rules.specs.Refusals.{refusals, step}
 use Rattle.rules.specs.Laws.{OrderLaws, TableLaws}
 use Rattle.rules.specs.Claims.{StaysAccepted}
-use Rattle.rules.proofs.Facts.{not-false, and-left, and-right, both, or-right, or-rest, either, condition}
+use Rattle.rules.proofs.Facts.{not-false, and-left, and-right, both, or-right, either, condition}
 use Rattle.rules.proofs.Bounded.{all-at, all-of}
-use Rattle.rules.proofs.Steps.{Pass, writes, step-formed, step-groups, step-all}
+use Rattle.rules.proofs.Steps.{step-formed, step-groups, step-all}
 
 -- an entity keeps to the groups, and a caller is one
 entity-keeps : (k : Kind) (x : Bool) → not (isProgram k) ≡ false → isFree k || x ≡ true → x ≡ true
@@ -37,84 +34,97 @@ module _ {A : Labels} (O : OrderLaws A) where
   above-right a b c h = O .below-trans b (A .join a b) c (O .join-right a b) h
 
   -- the six are below a label
-  record Within (s i : A .Label) (r : Rights A) (u : A .Label) : Type 0 where
-    sec : A .below s u ≡ true
-    int : A .below i u ≡ true
-    sa : A .below (r .sa) u ≡ true
-    sd : A .below (r .sd) u ≡ true
-    ia : A .below (r .ia) u ≡ true
-    id : A .below (r .id) u ≡ true
+  record Within (e : Slot A) (u : A .Label) : Type 0 where
+    sec : A .below (e .sec) u ≡ true
+    int : A .below (e .int) u ≡ true
+    sa : A .below (e .rights .sa) u ≡ true
+    sd : A .below (e .rights .sd) u ≡ true
+    ia : A .below (e .rights .ia) u ≡ true
+    id : A .below (e .rights .id) u ≡ true
 
-  within-held : (s i : A .Label) (r : Rights A) → Within s i r (held s i r)
-  within-held s i r = record {
-    sec = above-left s i u labels;
-    int = above-right s i u labels;
+  within-held : (e : Slot A) → Within e (held e)
+  within-held e = record {
+    sec = above-left (e .sec) (e .int) u labels;
+    int = above-right (e .sec) (e .int) u labels;
     sa = above-left (r .sa) (r .sd) u s-rights;
     sd = above-right (r .sa) (r .sd) u s-rights;
     ia = above-left (r .ia) (r .id) u i-rights;
     id = above-right (r .ia) (r .id) u i-rights;
   }
     where
+      r : Rights A
+      r = e .rights
+
       u : A .Label
-      u = held s i r
+      u = held e
 
-      front : A .below (A .join (A .join s i) (A .join (r .sa) (r .sd))) u ≡ true
-      front = O .join-left (A .join (A .join s i) (A .join (r .sa) (r .sd))) (A .join (r .ia) (r .id))
+      front : A .below (A .join (A .join (e .sec) (e .int)) (A .join (r .sa) (r .sd))) u ≡ true
+      front = O .join-left (A .join (A .join (e .sec) (e .int)) (A .join (r .sa) (r .sd))) (A .join (r .ia) (r .id))
 
-      labels : A .below (A .join s i) u ≡ true
-      labels = above-left (A .join s i) (A .join (r .sa) (r .sd)) u front
+      labels : A .below (A .join (e .sec) (e .int)) u ≡ true
+      labels = above-left (A .join (e .sec) (e .int)) (A .join (r .sa) (r .sd)) u front
 
       s-rights : A .below (A .join (r .sa) (r .sd)) u ≡ true
-      s-rights = above-right (A .join s i) (A .join (r .sa) (r .sd)) u front
+      s-rights = above-right (A .join (e .sec) (e .int)) (A .join (r .sa) (r .sd)) u front
 
       i-rights : A .below (A .join (r .ia) (r .id)) u ≡ true
-      i-rights = O .join-right (A .join (A .join s i) (A .join (r .sa) (r .sd))) (A .join (r .ia) (r .id))
+      i-rights = O .join-right (A .join (A .join (e .sec) (e .int)) (A .join (r .sa) (r .sd))) (A .join (r .ia) (r .id))
 
-  held-least : (s i : A .Label) (r : Rights A) (u : A .Label) → Within s i r u → A .below (held s i r) u ≡ true
-  held-least s i r u w =
-      O .join-least (A .join (A .join s i) (A .join (r .sa) (r .sd))) (A .join (r .ia) (r .id)) u
-      (O .join-least (A .join s i) (A .join (r .sa) (r .sd)) u
-      (O .join-least s i u (w .sec) (w .int)) (O .join-least (r .sa) (r .sd) u (w .sa) (w .sd)))
+  held-least : (e : Slot A) (u : A .Label) → Within e u → A .below (held e) u ≡ true
+  held-least e u w =
+      let r = e .rights in
+      O .join-least (A .join (A .join (e .sec) (e .int)) (A .join (r .sa) (r .sd))) (A .join (r .ia) (r .id)) u
+      (O .join-least (A .join (e .sec) (e .int)) (A .join (r .sa) (r .sd)) u
+      (O .join-least (e .sec) (e .int) u (w .sec) (w .int)) (O .join-least (r .sa) (r .sd) u (w .sa) (w .sd)))
       (O .join-least (r .ia) (r .id) u (w .ia) (w .id))
 
   -- who holds no more than one who keeps to the groups keeps to them
-  keeps-less : (gs : List (A .Group)) (s i s′ i′ : A .Label) (r r′ : Rights A) → Within s′ i′ r′ (held s i r)
-      → keepsAll gs s i r ≡ true → keepsAll gs s′ i′ r′ ≡ true
-  keeps-less [] s i s′ i′ r r′ w h = refl
-  keeps-less (g ∷ gs) s i s′ i′ r r′ w h = both (keepsTo g s′ i′ r′) _
-      (le-leb (A .common (held s′ i′ r′) g) 1 (omega (arith, leb-true (A .common (held s i r) g) 1 (and-left (keepsTo g s i r) _ h), O .common-grows g (held s′ i′ r′) (held s i r) (held-least s′ i′ r′ (held s i r) w))))
-      (keeps-less gs s i s′ i′ r r′ w (and-right (keepsTo g s i r) _ h))
+  each-less : (gs : List (A .Group)) (a b : A .Label) → A .below a b ≡ true → keepsEach A gs b ≡ true → keepsEach A gs a ≡ true
+  each-less [] a b w h = refl
+  each-less (g ∷ gs) a b w h = both (A .keeps g a) _ (O .keeps-less g a b w (and-left (A .keeps g b) _ h)) (each-less gs a b w (and-right (A .keeps g b) _ h))
+
+  keeps-less : (gs : List (A .Group)) (e e′ : Slot A) → Within e′ (held e) → keepsAll gs e ≡ true → keepsAll gs e′ ≡ true
+  keeps-less gs e e′ w h = each-less gs (held e′) (held e) (held-least e′ (held e) w) h
 
   -- ---- a call
 
-  module _ (s i : A .Label) (r : Rights A) where
-    u : A .Label
-    u = held s i r
+  module _ (e : Slot A) where
+    r : Rights A
+    r = e .rights
 
-    w : Within s i r u
+    u : A .Label
+    u = held e
+
+    w : Within e u
     unfolding u
-    w = within-held s i r
+    w = within-held e
 
     -- a tag added under its right, in S or in I
-    added : (z : Bool) (p : A .Tag) → A .has (cond z (r .sa) (r .ia)) p ≡ true → Within (cond z (A .insert p s) s) (cond z i (A .insert p i)) r (held s i r)
-    unfolding u
-    added true p h = record { sec = O .insert-below p s (r .sa) u h (w .sa) (w .sec); int = w .int; sa = w .sa; sd = w .sd; ia = w .ia; id = w .id }
-    added false p h = record { sec = w .sec; int = O .insert-below p i (r .ia) u h (w .ia) (w .int); sa = w .sa; sd = w .sd; ia = w .ia; id = w .id }
+    added : (n : ℕ) (p : A .Tag) → A .has (addRight n (e .rights)) p ≡ true → Within (relabel n (A .insert p) e) (held e)
+    unfolding u r
+    added n p = go (eqb n 0)
+      where
+        go : (z : Bool) → A .has (cond z (r .sa) (r .ia)) p ≡ true → Within (record { kind = e .kind; sec = cond z (A .insert p (e .sec)) (e .sec); int = cond z (e .int) (A .insert p (e .int)); rights = e .rights; content = e .content }) (held e)
+        go true h = record { sec = O .insert-below p (e .sec) (r .sa) u h (w .sa) (w .sec); int = w .int; sa = w .sa; sd = w .sd; ia = w .ia; id = w .id }
+        go false h = record { sec = w .sec; int = O .insert-below p (e .int) (r .ia) u h (w .ia) (w .int); sa = w .sa; sd = w .sd; ia = w .ia; id = w .id }
 
     less : (p : A .Tag) (a : A .Label) → A .below a u ≡ true → A .below (A .remove p a) u ≡ true
     less p a h = O .below-trans (A .remove p a) a u (O .remove-below p a) h
 
-    dropped : (z : Bool) (p : A .Tag) → Within (cond z (A .remove p s) s) (cond z i (A .remove p i)) r (held s i r)
-    unfolding u
-    dropped true p = record { sec = less p s (w .sec); int = w .int; sa = w .sa; sd = w .sd; ia = w .ia; id = w .id }
-    dropped false p = record { sec = w .sec; int = less p i (w .int); sa = w .sa; sd = w .sd; ia = w .ia; id = w .id }
+    dropped : (n : ℕ) (p : A .Tag) → Within (relabel n (A .remove p) e) (held e)
+    unfolding u r
+    dropped n p = go (eqb n 0)
+      where
+        go : (z : Bool) → Within (record { kind = e .kind; sec = cond z (A .remove p (e .sec)) (e .sec); int = cond z (e .int) (A .remove p (e .int)); rights = e .rights; content = e .content }) (held e)
+        go true = record { sec = less p (e .sec) (w .sec); int = w .int; sa = w .sa; sd = w .sd; ia = w .ia; id = w .id }
+        go false = record { sec = w .sec; int = less p (e .int) (w .int); sa = w .sa; sd = w .sd; ia = w .ia; id = w .id }
 
-    bare : Within s i noRights (held s i r)
-    unfolding u
-    bare = record { sec = w .sec; int = w .int; sa = O .empty-below u; sd = O .empty-below u; ia = O .empty-below u; id = O .empty-below u }
+    new : (n : ℕ) → Within (created n e) (held e)
+    unfolding u r
+    new n = record { sec = w .sec; int = w .int; sa = O .empty-below u; sd = O .empty-below u; ia = O .empty-below u; id = O .empty-below u }
 
   module _ (gs : List (A .Group)) (a b : Slot A) (h : slotKeeps gs a ≡ true) (k : slotKeeps gs b ≡ true) where
-    own : not (isProgram (a .kind)) ≡ false → keepsAll gs (a .sec) (a .int) (a .rights) ≡ true
+    own : not (isProgram (a .kind)) ≡ false → keepsAll gs a ≡ true
     own p = entity-keeps (a .kind) _ p h
 
     written-keeps : (c : Call A) → ((n : ℕ) → condition n (refusals gs a b c) ≡ false) → slotKeeps gs (written a b c) ≡ true
@@ -122,12 +132,9 @@ module _ {A : Labels} (O : OrderLaws A) where
     written-keeps (show i buf) r = h
     written-keeps (send i j) r = k
     written-keeps (fetch i j) r = h
-    written-keeps (addTag i n p) r = or-right (isFree (a .kind)) _ (keeps-less gs (a .sec) (a .int) _ _ (a .rights) (a .rights)
-        (added (a .sec) (a .int) (a .rights) (eqb n 0) p (not-false _ (r 10))) (own (r 1)))
-    written-keeps (dropTag i n p) r = or-right (isFree (a .kind)) _ (keeps-less gs (a .sec) (a .int) _ _ (a .rights) (a .rights)
-        (dropped (a .sec) (a .int) (a .rights) (eqb n 0) p) (own (r 1)))
-    written-keeps (create i j n) r = or-right (isFree (newKind n)) _ (keeps-less gs (a .sec) (a .int) (a .sec) (a .int) (a .rights) noRights
-        (bare (a .sec) (a .int) (a .rights)) (own (r 1)))
+    written-keeps (addTag i n p) r = or-right (isFree (a .kind)) _ (keeps-less gs a (written a b (addTag i n p)) (added a n p (not-false _ (r 10))) (own (r 1)))
+    written-keeps (dropTag i n p) r = or-right (isFree (a .kind)) _ (keeps-less gs a (written a b (dropTag i n p)) (dropped a n p) (own (r 1)))
+    written-keeps (create i j n) r = or-right (isFree (newKind n)) _ (keeps-less gs a (created n a) (new a n) (own (r 1)))
     written-keeps (release i j) r = refl
     written-keeps (hand i j n p) r = or-right (isFree (b .kind)) _ (not-false _ (r 11))
 

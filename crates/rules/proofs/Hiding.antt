@@ -5,13 +5,11 @@ use mathlib.Core.Path.{_≡_, refl, ap}
 use mathlib.Core.Bool.{Bool, true, false, cond, not, _&&_, _||_}
 use mathlib.Core.List.{List, []}
 use Prim.Native.Nat.{ℕ}
-use lib.Dec.{ltb, eqb}
-use lib.ListN.{length}
 use Rattle.rules.specs.declared.Kind.{Kind}
 use Rattle.rules.specs.declared.Kind.the-variants.{Free, Item, Program}
 use Rattle.rules.specs.Labels.{Labels}
-use Rattle.rules.specs.Table.{isProgram, Rights, Slot, free, flow}
-use Rattle.rules.specs.Calls.{Call, put, show, send, fetch, addTag, dropTag, create, release, hand, kindOf, callerOf, otherOf}
+use Rattle.rules.specs.Table.{isFree, isProgram, Rights, Slot, free, flow}
+use Rattle.rules.specs.Calls.{Call, put, show, send, fetch, addTag, dropTag, create, release, hand, callerOf, otherOf, movesContent}
 use Rattle.rules.specs.Calls.{addRight, dropRight, relabel, rightAt, grant, withContent, withRights, created, target, written, moved}
 use Rattle.rules.specs.Refusals.{first, refusals}
 use Rattle.rules.specs.Runs.{Hidden, hides}
@@ -19,17 +17,17 @@ use Rattle.rules.proofs.Facts.{not-false, and-left, and-right, or-left,
 
 -- What keeps it hidden: labels and rights that are safe in a slot, and the calls that a run may hold
 pub record Guard (A : Labels) : Type 0 where
-  pub safe : ℕ → A .Label → A .Label → Rights A → Bool
+  pub safe : ℕ → Kind → A .Label → A .Label → Rights A → Bool
   pub may : Call A → Bool
 
 module _ {A : Labels} where
   abbrev pub safely : Guard A → ℕ → Slot A → Bool
-  safely G i e = G .safe i (e .sec) (e .int) (e .rights)
+  safely G i e = G .safe i (e .kind) (e .sec) (e .int) (e .rights)
 
   -- Flow leads from what is hidden only to what is; safe changes of labels keep it hidden; and safe slots stay safe
   pub record HidingLaws (H : Hidden A) (G : Guard A) : Type 0 where
-    pub flows : (i j : ℕ) (a b : Slot A) → safely G i a ≡ true → safely G j b ≡ true → isProgram (a .kind) || isProgram (b .kind) ≡ true → flow a b ≡ true
-        → hides H i a ≡ true → hides H j b ≡ true
+    pub flows : (i j : ℕ) (a b : Slot A) → safely G i a ≡ true → safely G j b ≡ true → isFree (a .kind) ≡ false → isFree (b .kind) ≡ false
+        → isProgram (a .kind) || isProgram (b .kind) ≡ true → flow a b ≡ true → hides H i a ≡ true → hides H j b ≡ true
     pub adds : (n : ℕ) (p : A .Tag) (i : ℕ) (a : Slot A) → A .has (addRight n (a .rights)) p ≡ true → safely G i a ≡ true
         → hides H i a ≡ true → hides H i (relabel n (A .insert p) a) ≡ true
     pub drops : (n : ℕ) (p : A .Tag) (i : ℕ) (a : Slot A) → A .has (dropRight n (a .rights)) p ≡ true → safely G i a ≡ true
@@ -49,7 +47,7 @@ module _ {A : Labels} where
 
   -- the call is struck out where its caller's slot is this
   abbrev pub struckBy : Hidden A → Slot A → Call A → Bool
-  struckBy H a c = hides H (callerOf c) a && (isProgram (a .kind) && ltb (kindOf c) 5)
+  struckBy H a c = hides H (callerOf c) a && (isProgram (a .kind) && movesContent c)
 
 -- the slot that a call writes, before it
 abbrev pub was : {A : Labels} → Slot A → Slot A → Call A → Slot A
@@ -63,6 +61,11 @@ was a b (create i j n) = b
 was a b (release i j) = b
 was a b (hand i j n p) = b
 
+not-free : (k : Kind) → not (isProgram k) ≡ false → isFree k ≡ false
+not-free Free e = cc
+not-free Item e = refl
+not-free Program e = refl
+
 blank-twice : (h g : Bool) (x : List ℕ) → (h ≡ true → g ≡ true) → cond g [] (cond h [] x) ≡ cond g [] x
 blank-twice true true x f = refl
 blank-twice true false x f = let e : false ≡ true = f refl in cc
@@ -75,7 +78,7 @@ module _ {A : Labels} (H : Hidden A) where
   low-under i a e x f = ap (λ (y : List ℕ). withContent e y) (blank-twice (hides H i a) (hides H i e) x f)
 
   -- a program whose put, show, send or fetch is not struck is not hidden
-  seen : (c : Call A) (a : Slot A) → ltb (kindOf c) 5 ≡ true → struckBy H a c ≡ false → not (isProgram (a .kind)) ≡ false → hides H (callerOf c) a ≡ false
+  seen : (c : Call A) (a : Slot A) → movesContent c ≡ true → struckBy H a c ≡ false → not (isProgram (a .kind)) ≡ false → hides H (callerOf c) a ≡ false
   seen c a m h p = contra (hides H (callerOf c) a) (struckBy H a c) (λ e. rw (e, m, not-false (isProgram (a .kind)) p)) h
 
   module _ (gs : List (A .Group)) (a b : Slot A) where
@@ -95,7 +98,7 @@ module _ {A : Labels} (H : Hidden A) where
       source : (i j : ℕ) → safely G i a ≡ true → safely G j b ≡ true → struckBy H a (fetch i j) ≡ false → ((n : ℕ) → condition n (refusals gs a b (fetch i j)) ≡ false)
           → hides H j b ≡ false
       source i j k l h r = contra (hides H j b) (hides H i a)
-          (L .flows j i b a l k (or-right (isProgram (b .kind)) _ (not-false (isProgram (a .kind)) (r 1))) (not-false (flow b a) (r 7)))
+          (L .flows j i b a l k (r 3) (not-free (a .kind) (r 1)) (or-right (isProgram (b .kind)) _ (not-false (isProgram (a .kind)) (r 1))) (not-false (flow b a) (r 7)))
           (seen (fetch i j) a refl h (r 1))
 
       pub low-moved : (c : Call A) → safely G (callerOf c) a ≡ true → safely G (otherOf c) b ≡ true → struckBy H a c ≡ false
@@ -126,7 +129,7 @@ module _ {A : Labels} (H : Hidden A) where
       struck-hidden : (c : Call A) → struckBy H a c ≡ true → hides H (callerOf c) a ≡ true
       struck-hidden c h = and-left (hides H (callerOf c) a) _ h
 
-      struck-moves : (c : Call A) → struckBy H a c ≡ true → ltb (kindOf c) 5 ≡ true
+      struck-moves : (c : Call A) → struckBy H a c ≡ true → movesContent c ≡ true
       struck-moves c h = and-right (isProgram (a .kind)) _ (and-right (hides H (callerOf c) a) _ h)
 
       -- a struck call writes nothing that is not hidden
@@ -135,7 +138,7 @@ module _ {A : Labels} (H : Hidden A) where
       struck-written (put i bs) k l h r = rw (struck-hidden (put i bs) h)
       struck-written (show i buf) k l h r = refl
       struck-written (send i j) k l h r =
-          rw (L .flows i j a b k l (or-left _ (isProgram (b .kind)) (not-false (isProgram (a .kind)) (r 1))) (not-false (flow a b) (r 7)) (struck-hidden (send i j) h))
+          rw (L .flows i j a b k l (not-free (a .kind) (r 1)) (r 3) (or-left _ (isProgram (b .kind)) (not-false (isProgram (a .kind)) (r 1))) (not-false (flow a b) (r 7)) (struck-hidden (send i j) h))
       struck-written (fetch i j) k l h r = rw (struck-hidden (fetch i j) h)
       struck-written (addTag i n p) k l h r = let z = struck-moves (addTag i n p) h in cc
       struck-written (dropTag i n p) k l h r = let z = struck-moves (dropTag i n p) h in cc

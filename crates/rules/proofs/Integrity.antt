@@ -1,7 +1,7 @@
 -- Integrity: what lacks a tag that nobody can add stays apart from what bears it. The second instance of what is hidden.
 -- Assumes nothing.
 use mathlib.Core.Path.{_≡_}
-use mathlib.Core.Bool.{Bool, true, false, cond, not, _&&_, _||_}
+use mathlib.Core.Bool.{Bool, true, false, cond, not}
 use Prim.Native.Nat.{ℕ}
 use lib.Dec.{eqb}
 use borrow.Author.Tests.{eqb-true}
@@ -15,12 +15,12 @@ use Rattle.rules.proofs.Hiding.{Guard, HidingLaws}
 
 -- safe is who cannot add the tag; a run may hold any call
 abbrev pub unaddable : (A : Labels) → A .Tag → Guard A
-unaddable A p = record { safe = λ i s int r. not (A .has (r .ia) p); may = λ c. true }
+unaddable A p = record { safe = λ i k s int r. not (A .has (r .ia) p); may = λ c. true }
 
 module _ {A : Labels} (p : A .Tag) (G : TagLaws A p) where
   pub integrity-hides : HidingLaws (lacks A p) (unaddable A p)
   integrity-hides = record {
-    flows = λ i j a b k l q. flows a b;
+    flows = λ i j a b k l e f q. flows a b;
     adds = λ n q i a. add (eqb n 0) q a;
     drops = λ n q i a r k. drop-tag (eqb n 0) q a;
     add-safe = λ n q i a r k. k;

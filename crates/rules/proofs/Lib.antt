@@ -4,6 +4,7 @@ pub mod Steps
 pub mod Groups
 pub mod Refused
 pub mod Shows
+pub mod ByNumber
 pub mod Unwinding
 pub mod Hiding
 pub mod TwoRuns

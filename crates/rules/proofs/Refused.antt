@@ -1,6 +1,6 @@
 -- A refusal has a listed number, and moves nothing; a part fits its buffer.
 -- Assumes nothing.
-use mathlib.Core.Path.{_≡_, refl, ap}
+use mathlib.Core.Path.{_≡_, refl}
 use mathlib.Core.Bool.{Bool, true, false, cond}
 use mathlib.Core.List.{List, []}
 use Prim.Native.Nat.{ℕ, _%_, _≤_}
@@ -12,7 +12,7 @@ use Rattle.rules.specs.declared.Outcome.{Outcome}
 use Rattle.rules.specs.declared.Outcome.the-variants.{Allowed, Refused}
 use Rattle.rules.specs.Labels.{Labels}
 use Rattle.rules.specs.Table.{isProgram, Slot, Tables, at}
-use Rattle.rules.specs.Calls.{Call, put, show, send, fetch, addTag, dropTag, create, release, hand, kindOf, callerOf, otherOf, moved, lent}
+use Rattle.rules.specs.Calls.{Call, put, show, send, fetch, addTag, dropTag, create, release, hand, callerOf, otherOf, moved, isShow, lent}
 use Rattle.rules.specs.Refusals.{first, onAllowed, refusals, allRefusals, verdict}
 use Rattle.rules.specs.Record.{filled, answer, recordSize, auditable, auditRefusals, audit}
 use Rattle.rules.specs.Claims.{listed, auditListed, RefusalsMoveNothing, RefusedAuditsMoveNothing, PartsFit}
@@ -43,8 +43,8 @@ module _ {A : Labels} (T : Tables A) where
   refusals-move-nothing t c n e = record {
     number = number-of-first listed (allRefusals T t c) n e (all-listed (T .groups t) (at T t (callerOf c)) (at T t (otherOf c)) c);
     table = rw e;
-    buffer = rw (e, empty-either (eqb (kindOf c) 2));
-    part = rw (e, empty-either (eqb (kindOf c) 2));
+    buffer = rw (e, empty-either (isShow c));
+    part = rw (e, empty-either (isShow c));
     recorded = rw e;
     count = rw e;
   }
@@ -60,8 +60,8 @@ module _ {A : Labels} (T : Tables A) where
 
   -- an allowed show fits: 6 does not apply
   moved-fits : (t : T .Table) (c : Call A) (v : Outcome) → verdict T t c ≡ v
-      → length (cond (eqb (kindOf c) 2) (onAllowed v (moved (at T t (callerOf c)) (at T t (otherOf c)) c) []) []) ≤ length (lent c)
-  moved-fits t c (Refused n) e = rw (empty-either (eqb (kindOf c) 2)) (omega arith)
+      → length (cond (isShow c) (onAllowed v (moved (at T t (callerOf c)) (at T t (otherOf c)) c) []) []) ≤ length (lent c)
+  moved-fits t c (Refused n) e = rw (empty-either (isShow c)) (omega arith)
   moved-fits t (put i bs) Allowed e = omega arith
   moved-fits t (show i buf) Allowed e = ltb-false (length buf) (length (at T t i .content)) (pass T t (show i buf) e .off 6)
   moved-fits t (send i j) Allowed e = omega arith

@@ -1,23 +1,21 @@
 -- Secrecy: a tag that nobody can drop hides what bears it, in records and audits too.
 -- Assumes nothing.
-use mathlib.Core.Path.{_≡_, refl, ap, ap₂, sym, _∙_}
+use mathlib.Core.Path.{_≡_, refl, ap, sym, _∙_}
 use mathlib.Core.Bool.{Bool, true, false, cond, not, _&&_, _||_}
-use mathlib.Core.List.{List, [], _∷_, _++_}
-use Prim.Native.Nat.{ℕ, zero, suc, _+_, _/_, _%_, _<_}
-use native.Mathlib.Omega.{arith}
-use lib.Dec.{ltb, leb, eqb}
-use lib.ListN.{length, take, drop, length-append}
-use lib.Seq.{take-at, drop-at}
+use mathlib.Core.List.{List, [], _∷_}
+use Prim.Native.Nat.{ℕ, _/_, _%_}
+use lib.Dec.{leb, eqb}
+use lib.ListN.{length}
 use borrow.Author.Tests.{eqb-true}
 use Rattle.rules.specs.declared.Kind.{Kind}
 use Rattle.rules.specs.declared.Kind.the-variants.{Free, Item, Program}
 use Rattle.rules.specs.declared.Outcome.{Outcome}
 use Rattle.rules.specs.Labels.{Labels}
-use Rattle.rules.specs.Table.{isFree, isProgram, Rights, Slot, Tables, rightless, kindFormed, slotFormed, at, accepted}
-use Rattle.rules.specs.Calls.{Call, addRight, dropRight, rightAt, grant, callerOf, otherOf}
+use Rattle.rules.specs.Table.{isFree, isItem, isProgram, Rights, Slot, Tables, rightless, vacant, at}
+use Rattle.rules.specs.Calls.{Call, rightAt, grant, callerOf, otherOf}
 use Rattle.rules.specs.Refusals.{first, onAllowed, step}
-use Rattle.rules.specs.Record.{needOf, answer, visible, recordSize, recordsIn, shownOf, auditable, auditRefusals, audit}
-use Rattle.rules.specs.Runs.{Hidden, bears, final, trace, kept, hiddenAt, struck, heard, records}
+use Rattle.rules.specs.Record.{needOf, answer, visible, recordSize, recordsIn, shownOf, auditable, auditRefusals}
+use Rattle.rules.specs.Runs.{Hidden, bears, final, hiddenAt, struck, heard, records}
 use Rattle.rules.specs.Laws.{OrderLaws, TagLaws, TableLaws}
 use Rattle.rules.specs.Claims.{AuditsAlike, Secrecy}
 use Rattle.rules.proofs.Facts.{not-true, not-of, and-left, and-right, both, contra, either}
@@ -25,17 +23,17 @@ use Rattle.rules.proofs.Steps.{at-formed}
 use Rattle.rules.proofs.Shows.{shows}
 use Rattle.rules.proofs.Records.{showsTo, records-whole, records-shown}
 use Rattle.rules.proofs.Unwinding.{every, Output, runs}
-use Rattle.rules.proofs.Hiding.{Guard, safely, HidingLaws, low}
+use Rattle.rules.proofs.Hiding.{Guard, safely, HidingLaws}
 use Rattle.rules.proofs.TwoRuns.{Alike, unwinding, answer-alike, heard-alike, runs-alike, differ-alike}
 
 -- safe is who cannot drop the tag; a run may hold any call
 abbrev pub undroppable : (A : Labels) → A .Tag → Guard A
-undroppable A p = record { safe = λ i s int r. not (A .has (r .sd) p); may = λ c. true }
+undroppable A p = record { safe = λ i k s int r. not (A .has (r .sd) p); may = λ c. true }
 
 module _ {A : Labels} (p : A .Tag) (G : TagLaws A p) where
   pub secrecy-hides : HidingLaws (bears A p) (undroppable A p)
   secrecy-hides = record {
-    flows = λ i j a b k l q f h. G .below-has (a .sec) (b .sec) (and-left (A .below (a .sec) (b .sec)) _ f) h;
+    flows = λ i j a b k l e g q f h. G .below-has (a .sec) (b .sec) (and-left (A .below (a .sec) (b .sec)) _ f) h;
     adds = λ n q i a r k. add (eqb n 0) q a;
     drops = λ n q i a. drop-tag (eqb n 0) q a;
     add-safe = λ n q i a r k. k;
@@ -71,9 +69,9 @@ module _ {A : Labels} (p : A .Tag) (G : TagLaws A p) where
       no-right : rightless r ≡ true → A .has (r .sd) p ≡ false
       no-right e = contra (A .has (r .sd) p) (A .has (A .empty) p) (G .same-has (r .sd) (A .empty) (and-left (A .same (r .sd) (A .empty)) _ (and-right (A .same (r .sa) (A .empty)) _ e))) (G .empty-has)
 
-      go : (k : Kind) → (isProgram k ≡ true → A .has (r .sd) p ≡ false) → kindFormed k (at T t i .sec) (at T t i .int) r (length (at T t i .content)) ≡ true → A .has (r .sd) p ≡ false
+      go : (k : Kind) → (isProgram k ≡ true → A .has (r .sd) p ≡ false) → (not (isItem k) || rightless r) && (not (isFree k) || vacant (at T t i) (length (at T t i .content))) ≡ true → A .has (r .sd) p ≡ false
       go Free q e = no-right (and-left (rightless r) _ (and-right (A .same (at T t i .sec) (A .empty) && A .same (at T t i .int) (A .empty)) _ e))
-      go Item q e = no-right e
+      go Item q e = no-right (and-left (rightless r) _ e)
       go Program q e = q refl
 
 -- ---- records

@@ -1,14 +1,15 @@
 -- To whom the record of a call shows.
 -- Assumes nothing.
-use mathlib.Core.Path.{_≡_, refl, sym, _∙_}
+use mathlib.Core.Path.{_≡_, refl, _∙_}
 use mathlib.Core.Bool.{Bool, true, false, cond, not, _&&_, _||_}
 use Rattle.rules.specs.Labels.{Labels}
 use Rattle.rules.specs.Table.{isProgram, Tables, at}
-use Rattle.rules.specs.Calls.{Call, callerOf, otherOf}
-use Rattle.rules.specs.Refusals.{step}
-use Rattle.rules.specs.Record.{needOf, visible, answer}
+use Rattle.rules.specs.Calls.{Call, fieldsOf, kindOf, callerOf, otherOf}
+use Rattle.rules.specs.Refusals.{numberOf, verdict, step}
+use Rattle.rules.specs.Record.{needOf, movedBy, visible, answer}
 use Rattle.rules.specs.Laws.{OrderLaws}
 use Rattle.rules.specs.Claims.{RecordsShow}
+use lib.ListN.{length}
 use Rattle.rules.proofs.Facts.{and-left, and-right, both, iff}
 
 module _ {A : Labels} (O : OrderLaws A) where
@@ -27,7 +28,7 @@ module _ {A : Labels} (O : OrderLaws A) where
   module _ (T : Tables A) where
     -- a record shows to whoever its need is below
     pub shows : (t : T .Table) (c : Call A) (l : A .Label) → visible A l (answer T t c .entry) ≡ A .below (needOf T t c) l
-    shows t c l = O .bytes-below (needOf T t c) l
+    shows t c l = O .entry-shows (kindOf c) (callerOf c) (otherOf c) (numberOf (verdict T t c)) (length (movedBy T t c)) (fieldsOf c .set) (fieldsOf c .tag) (needOf T t c) l
 
     pub records-show : RecordsShow T
     records-show t c l = shows t c l ∙ go (T .formed t && isProgram (at T t (callerOf c) .kind))

@@ -3,7 +3,7 @@
 -- Assumes nothing.
 use mathlib.Core.Path.{_≡_, refl, ap, sym, _∙_}
 use mathlib.Core.Bool.{Bool, true, false, cond, not, _&&_, _||_, false≢true}
-use mathlib.Core.List.{List, []}
+use mathlib.Core.List.{List}
 use Prim.Native.Nat.{ℕ, _≤_, _<_}
 use native.Mathlib.Omega.{arith}
 use lib.Dec.{ltb, leb, eqb}
@@ -14,8 +14,8 @@ use Rattle.rules.specs.declared.Kind.the-variants.{Free, Item, Program}
 use Rattle.rules.specs.declared.Outcome.{Outcome}
 use Rattle.rules.specs.declared.Outcome.the-variants.{Allowed, Refused}
 use Rattle.rules.specs.Labels.{Labels}
-use Rattle.rules.specs.Table.{isFree, isItem, isProgram, Rights, Slot, Tables, noRights, free, rightless, kindFormed, slotFormed, at}
-use Rattle.rules.specs.Calls.{Call, put, show, send, fetch, addTag, dropTag, create, release, hand, callerOf, otherOf, newKind, created, target, written}
+use Rattle.rules.specs.Table.{isFree, isItem, isProgram, Slot, Tables, noRights, free, rightless, vacant, slotFormed, at}
+use Rattle.rules.specs.Calls.{Call, put, show, send, fetch, addTag, dropTag, create, release, hand, callerOf, otherOf, created, target, written}
 use Rattle.rules.specs.Refusals.{Refusals, _if_else_, first, onAllowed, refusals, verdict, step}
 use Rattle.rules.specs.Laws.{OrderLaws, TableLaws}
 use Rattle.rules.proofs.Facts.{not-false, and-left, and-right, both, neither-left, either, condition, passed, refused-not-allowed}
@@ -38,18 +38,19 @@ calls k e = not-false (isProgram k) e
 
 -- ---- slots in form
 
+program-formed : (k : Kind) (x y : Bool) → isProgram k ≡ true → (not (isItem k) || x) && (not (isFree k) || y) ≡ true
+program-formed Free x y p = cc
+program-formed Item x y p = cc
+program-formed Program x y p = refl
+
+-- an entity with the same rights is in form
+entity-formed : (k : Kind) (x y z : Bool) → isFree k ≡ false → (not (isItem k) || x) && (not (isFree k) || y) ≡ true
+    → (not (isItem k) || x) && (not (isFree k) || z) ≡ true
+entity-formed Free x y z q h = cc
+entity-formed Item x y z q h = h
+entity-formed Program x y z q h = refl
+
 module _ {A : Labels} where
-  program-formed : (k : Kind) (s i : A .Label) (r : Rights A) (n : ℕ) → isProgram k ≡ true → kindFormed k s i r n ≡ true
-  program-formed Free s i r n p = cc
-  program-formed Item s i r n p = cc
-  program-formed Program s i r n p = refl
-
-  -- an entity with the same rights is in form
-  entity-formed : (k : Kind) (s i : A .Label) (r : Rights A) (n m : ℕ) → isFree k ≡ false → kindFormed k s i r n ≡ true → kindFormed k s i r m ≡ true
-  entity-formed Free s i r n m q h = cc
-  entity-formed Item s i r n m q h = h
-  entity-formed Program s i r n m q h = refl
-
   short : (e : Slot A) → slotFormed e ≡ true → leb (length (e .content)) 64 ≡ true
   short e h = and-left (leb (length (e .content)) 64) _ h
 
@@ -60,26 +61,26 @@ module _ {A : Labels} where
     pub free-formed : slotFormed (free {A = A}) ≡ true
     free-formed = rw (O .same-refl (A .empty))
 
-    new-formed : (z : Bool) (s i : A .Label) → kindFormed {A = A} (cond z Item Program) s i noRights 0 ≡ true
-    new-formed true s i = none-rightless
-    new-formed false s i = refl
+    new-formed : (z : Bool) (y : Bool) → (not (isItem (cond z Item Program)) || rightless (noRights {A = A})) && (not (isFree (cond z Item Program)) || y) ≡ true
+    new-formed true y = both _ true none-rightless refl
+    new-formed false y = refl
 
     module _ (gs : List (A .Group)) (a b : Slot A) (h : slotFormed a ≡ true) (k : slotFormed b ≡ true) where
       -- the caller's slot with other labels or another short content
       caller-formed : (e : Slot A) → a .kind ≡ e .kind → not (isProgram (a .kind)) ≡ false → leb (length (e .content)) 64 ≡ true → slotFormed e ≡ true
-      caller-formed e q p l = both _ _ l (program-formed (e .kind) (e .sec) (e .int) (e .rights) (length (e .content)) (ap isProgram (sym q) ∙ calls (a .kind) p))
+      caller-formed e q p l = both _ _ l (program-formed (e .kind) (rightless (e .rights)) (vacant e (length (e .content))) (ap isProgram (sym q) ∙ calls (a .kind) p))
 
       pub written-formed : (c : Call A) → ((n : ℕ) → condition n (refusals gs a b c) ≡ false) → slotFormed (written a b c) ≡ true
       written-formed (put i bs) r = caller-formed (written a b (put i bs)) refl (r 1) (le-leb _ _ (ltb-false 64 (length bs) (r 5)))
       written-formed (show i buf) r = h
-      written-formed (send i j) r = both _ _ (short a h) (entity-formed (b .kind) (b .sec) (b .int) (b .rights) (length (b .content)) (length (a .content)) (r 3) (and-right (leb (length (b .content)) 64) _ k))
+      written-formed (send i j) r = both _ _ (short a h) (entity-formed (b .kind) (rightless (b .rights)) (vacant b (length (b .content))) (vacant b (length (a .content))) (r 3) (and-right (leb (length (b .content)) 64) _ k))
       written-formed (fetch i j) r = caller-formed (written a b (fetch i j)) refl (r 1) (short b k)
       written-formed (addTag i n p) r = caller-formed (written a b (addTag i n p)) refl (r 1) (short a h)
       written-formed (dropTag i n p) r = caller-formed (written a b (dropTag i n p)) refl (r 1) (short a h)
-      written-formed (create i j n) r = new-formed (eqb n 1) (a .sec) (a .int)
+      written-formed (create i j n) r = new-formed (eqb n 1) (vacant (created n a) 0)
       written-formed (release i j) r = free-formed
       written-formed (hand i j n p) r = both _ _ (short b k)
-          (program-formed (b .kind) (b .sec) (b .int) (written a b (hand i j n p) .rights) (length (b .content)) (program-left (b .kind) (r 3) (r 9)))
+          (program-formed (b .kind) (rightless (written a b (hand i j n p) .rights)) (vacant (written a b (hand i j n p)) (length (b .content))) (program-left (b .kind) (r 3) (r 9)))
 
 -- ---- a call on a table in form
 

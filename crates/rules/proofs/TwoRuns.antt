@@ -5,7 +5,7 @@ use mathlib.Core.Path.{_≡_, refl, ap, sym, _∙_}
 use mathlib.Core.Bool.{Bool, true, false, cond, not, _&&_}
 use mathlib.Core.List.{List, [], _∷_}
 use Prim.Native.Nat.{ℕ}
-use lib.Dec.{ltb, eqb}
+use lib.Dec.{eqb}
 use lib.ListN.{length}
 use borrow.Author.Tests.{eqb-true}
 use Rattle.rules.specs.declared.Kind.{Kind}
@@ -14,16 +14,16 @@ use Rattle.rules.specs.declared.Outcome.{Outcome}
 use Rattle.rules.specs.declared.Outcome.the-variants.{Allowed, Refused}
 use Rattle.rules.specs.Labels.{Labels}
 use Rattle.rules.specs.Table.{isFree, isProgram, Slot, Tables, at}
-use Rattle.rules.specs.Calls.{Call, put, show, send, fetch, addTag, dropTag, create, release, hand, fieldsOf, kindOf, callerOf, otherOf, target, written, moved, lent}
+use Rattle.rules.specs.Calls.{Call, put, show, send, fetch, addTag, dropTag, create, release, hand, fieldsOf, callerOf, otherOf, target, written, moved, movesContent, isShow, lent}
 use Rattle.rules.specs.Refusals.{first, numberOf, onAllowed, refusals, verdict, step}
 use Rattle.rules.specs.Record.{Answer, filled, recordOf, needOf, movedBy, answer}
-use Rattle.rules.specs.Runs.{Hidden, hides, SlotsAgree, TablesAgree, hiddenAt, struck, heard, final, trace, kept}
+use Rattle.rules.specs.Runs.{Hidden, hides, SlotsAgree, TablesAgree, hiddenAt, struck, heard, final, kept}
 use Rattle.rules.specs.Laws.{OrderLaws, TableLaws}
 use Rattle.rules.specs.Claims.{RunsAlike}
 use Rattle.rules.proofs.Facts.{and-left, and-right}
 use Rattle.rules.proofs.Steps.{Pass, pass, writes, stored-at, step-formed, step-groups, step-all}
-use Rattle.rules.proofs.Unwinding.{every, Unwinding, Output, Runs, runs}
-use Rattle.rules.proofs.Hiding.{Guard, safely, HidingLaws, low, struckBy, was, low-refusals, low-moved, low-written, struck-written, safe-written}
+use Rattle.rules.proofs.Unwinding.{every, Unwinding, Output, runs}
+use Rattle.rules.proofs.Hiding.{Guard, safely, HidingLaws, low, was, low-refusals, low-moved, low-written, struck-written, safe-written}
 
 -- ---- slots that differ only in a hidden content look alike
 
@@ -67,8 +67,8 @@ abbrev answerOf : {A : Labels} → Call A → Outcome → List ℕ → A .Label 
 answerOf {A} c v bs l = record {
   outcome = v;
   entry = recordOf (fieldsOf c) (numberOf v) (length bs) l;
-  part = cond (eqb (kindOf c) 2) bs [];
-  buffer = filled (cond (eqb (kindOf c) 2) bs []) (lent c);
+  part = cond (isShow c) bs [];
+  buffer = filled (cond (isShow c) bs []) (lent c);
 }
 
 -- Two tables in form that differ only in hidden contents, which they keep safe
@@ -206,10 +206,10 @@ module _ {A : Labels} (T : Tables A) (O : OrderLaws A) (L : TableLaws T) (H : Hi
   struck-heard : (t : T .Table) (c : Call A) → struck T H t c ≡ true → hiddenAt T H t (callerOf c) ≡ true
   struck-heard t c h = go (at T t (callerOf c) .kind) (hides H (callerOf c) (at T t (callerOf c))) h
     where
-      go : (k : Kind) (b : Bool) → b && (isProgram k && ltb (kindOf c) 5) ≡ true → not (isFree k) && b ≡ true
+      go : (k : Kind) (b : Bool) → b && (isProgram k && movesContent c) ≡ true → not (isFree k) && b ≡ true
       go Free b e = and-right b false e
       go Item b e = and-left b false e
-      go Program b e = and-left b (ltb (kindOf c) 5) e
+      go Program b e = and-left b (movesContent c) e
 
   pub heard-alike : Output unwinding (heard T H)
   heard-alike = record {

@@ -1,6 +1,6 @@
 -- Document 01, 'Nine calls': their inputs, and what each writes and moves when it is allowed.
 -- Assumes nothing.
-use mathlib.Core.Bool.{Bool, cond}
+use mathlib.Core.Bool.{Bool, true, false, cond}
 use mathlib.Core.List.{List, []}
 use mathlib.Core.Option.{Option, none, some}
 use Prim.Native.Nat.{ℕ}
@@ -137,6 +137,29 @@ module _ {A : Labels} where
   moved a b (create i j n) = []
   moved a b (release i j) = []
   moved a b (hand i j n p) = []
+
+  -- put, show, send and fetch move content; the others change labels, rights or slots
+  abbrev pub movesContent : Call A → Bool
+  movesContent (put i bs) = true
+  movesContent (show i buf) = true
+  movesContent (send i j) = true
+  movesContent (fetch i j) = true
+  movesContent (addTag i n p) = false
+  movesContent (dropTag i n p) = false
+  movesContent (create i j n) = false
+  movesContent (release i j) = false
+  movesContent (hand i j n p) = false
+
+  abbrev pub isShow : Call A → Bool
+  isShow (put i bs) = false
+  isShow (show i buf) = true
+  isShow (send i j) = false
+  isShow (fetch i j) = false
+  isShow (addTag i n p) = false
+  isShow (dropTag i n p) = false
+  isShow (create i j n) = false
+  isShow (release i j) = false
+  isShow (hand i j n p) = false
 
   -- what the buffer lent to the call holds
   abbrev pub lent : Call A → List ℕ

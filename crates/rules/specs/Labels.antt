@@ -2,6 +2,7 @@
 -- Assumes nothing.
 use mathlib.Core.Bool.{Bool}
 use mathlib.Core.List.{List}
+use mathlib.Core.Option.{Option}
 use Prim.Native.Nat.{ℕ}
 
 pub record Labels : Type 1 where
@@ -22,10 +23,12 @@ pub record Labels : Type 1 where
   pub remove : Tag → Label → Label
   -- what is named is no tag of the hub's
   pub outside : Tag → Bool
-  -- how many tags a label and a group have in common
-  pub common : Label → Group → ℕ
-  -- a tag as a byte of a record; the bytes of a label, so many, and the label of such bytes
-  pub tagByte : Tag → ℕ
+  -- whether who holds so much, all sets together, keeps to a group
+  pub keeps : Group → Label → Bool
+  -- of a record: byte 5 and the bytes from 8 on, by the tag given, if the call uses one, and the need; how many bytes these
+  -- are; and of any bytes of a record's size whether a need can be read from them, and which
+  pub byte5 : Option Tag → Label → ℕ
+  pub tail : Option Tag → Label → List ℕ
   pub width : ℕ
-  pub bytes : Label → List ℕ
-  pub fromBytes : List ℕ → Label
+  pub readable : List ℕ → Bool
+  pub needIn : List ℕ → Label

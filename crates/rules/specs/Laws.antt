@@ -1,15 +1,18 @@
--- The laws of labels and of tables that the claims rest on. The 64-bit labels and the bare tables have them.
+-- The laws of labels and of tables that the claims rest on. The 64-bit labels have them, those of a tag for every tag below 64,
+-- and so have the bare tables and the hub's.
 -- Assumes nothing.
 use mathlib.Core.Path.{_≡_}
-use mathlib.Core.Bool.{Bool, true, false, cond}
-use mathlib.Core.List.{List}
-use Prim.Native.Nat.{ℕ, _<_, _≤_}
+use mathlib.Core.Bool.{true, false, cond}
+use mathlib.Core.List.{_∷_}
+use mathlib.Core.Option.{Option}
+use Prim.Native.Nat.{ℕ, _<_}
 use lib.Dec.{eqb}
 use lib.ListN.{length}
 use Rattle.rules.specs.Labels.{Labels}
-use Rattle.rules.specs.Table.{Slot, Tables, slotFormed, at}
+use Rattle.rules.specs.Table.{Slot, Tables, slotFormed}
+use Rattle.rules.specs.Record.{visible}
 
--- Labels are ordered, a join is the least label above two, and the count of common tags grows with the label
+-- Labels are ordered, a join is the least label above two, and who holds less keeps to no fewer groups
 pub record OrderLaws (A : Labels) : Type 0 where
   pub below-refl : (a : A .Label) → A .below a a ≡ true
   pub below-trans : (a b c : A .Label) → A .below a b ≡ true → A .below b c ≡ true → A .below a c ≡ true
@@ -22,10 +25,12 @@ pub record OrderLaws (A : Labels) : Type 0 where
       → A .below (A .insert p a) c ≡ true
   pub remove-below : (p : A .Tag) (a : A .Label) → A .below (A .remove p a) a ≡ true
   pub same-refl : (a : A .Label) → A .same a a ≡ true
-  pub common-grows : (g : A .Group) (a b : A .Label) → A .below a b ≡ true → A .common a g ≤ A .common b g
-  -- a label comes back from its bytes, as far as the order can tell
-  pub bytes-length : (a : A .Label) → length (A .bytes a) ≡ A .width
-  pub bytes-below : (a b : A .Label) → A .below (A .fromBytes (A .bytes a)) b ≡ A .below a b
+  -- who holds no more than one who keeps to a group keeps to it
+  pub keeps-less : (g : A .Group) (a b : A .Label) → A .below a b ≡ true → A .keeps g b ≡ true → A .keeps g a ≡ true
+  -- a record has its size, and its need comes back from its bytes, as far as the order can tell
+  pub tail-length : (p : Option (A .Tag)) (a : A .Label) → length (A .tail p a) ≡ A .width
+  pub entry-shows : (k i j n m s : ℕ) (p : Option (A .Tag)) (a l : A .Label)
+      → visible A l (k ∷ i ∷ j ∷ n ∷ m ∷ A .byte5 p a ∷ s ∷ 0 ∷ A .tail p a) ≡ A .below a l
 
 -- What the tag t has to do with the operations
 pub record TagLaws (A : Labels) (t : A .Tag) : Type 0 where

@@ -6,4 +6,5 @@ pub mod Refusals
 pub mod Record
 pub mod Runs
 pub mod Claims
+pub mod ByNumber
 pub mod Laws

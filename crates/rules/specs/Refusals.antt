@@ -1,6 +1,6 @@
 -- Document 01, 'When a call is turned down': the refusals of each call in order, and the table after a call.
 -- Assumes nothing.
-use mathlib.Core.Bool.{Bool, true, false, cond, not, _&&_, _||_}
+use mathlib.Core.Bool.{Bool, cond, not, _&&_, _||_}
 use mathlib.Core.List.{List}
 use Prim.Native.Nat.{ℕ}
 use lib.Dec.{ltb, eqb}
@@ -10,7 +10,7 @@ use Rattle.rules.specs.declared.Outcome.the-variants.{Allowed, Refused}
 use Rattle.rules.specs.Labels.{Labels}
 use Rattle.rules.specs.Table.{isFree, isItem, isProgram, Slot, Tables, flow, keepsAll, at}
 use Rattle.rules.specs.Calls.{Call, put, show, send, fetch, addTag, dropTag, create, release, hand}
-use Rattle.rules.specs.Calls.{callerOf, otherOf, addRight, dropRight, rightAt, grant, target, written}
+use Rattle.rules.specs.Calls.{callerOf, otherOf, addRight, dropRight, rightAt, grant, withRights, target, written}
 
 -- Refusals in order, each with its number and its condition. The first that applies is returned, none otherwise
 infixr 20 _if_else_
@@ -81,7 +81,7 @@ module _ {A : Labels} where
       else 3 if isFree (b .kind)
       else 9 if isItem (b .kind)
       else 10 if not (A .has (rightAt n (a .rights)) p)
-      else 11 if not (keepsAll gs (b .sec) (b .int) (grant n p (b .rights)))
+      else 11 if not (keepsAll gs (withRights b (grant n p (b .rights))))
       else allow
 
 module _ {A : Labels} (T : Tables A) where

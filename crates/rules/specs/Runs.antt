@@ -4,10 +4,9 @@ use mathlib.Core.Path.{_≡_}
 use mathlib.Core.Bool.{Bool, false, cond, not, _&&_}
 use mathlib.Core.List.{List, [], _∷_, _++_}
 use Prim.Native.Nat.{ℕ}
-use lib.Dec.{ltb}
 use Rattle.rules.specs.Labels.{Labels}
 use Rattle.rules.specs.Table.{isFree, isProgram, Slot, Tables, at}
-use Rattle.rules.specs.Calls.{Call, kindOf, callerOf}
+use Rattle.rules.specs.Calls.{Call, callerOf, movesContent}
 use Rattle.rules.specs.Refusals.{step}
 use Rattle.rules.specs.Record.{Answer, answer}
 
@@ -65,9 +64,9 @@ module _ {A : Labels} (T : Tables A) (H : Hidden A) where
   abbrev pub hiddenAt : T .Table → ℕ → Bool
   hiddenAt t i = not (isFree (at T t i .kind)) && hides H i (at T t i)
 
-  -- a put, show, send or fetch (kinds 1 to 4) by a hidden program, in the table that the call gets
+  -- a put, show, send or fetch by a hidden program, in the table that the call gets
   abbrev pub struck : T .Table → Call A → Bool
-  struck t c = hides H (callerOf c) (at T t (callerOf c)) && (isProgram (at T t (callerOf c) .kind) && ltb (kindOf c) 5)
+  struck t c = hides H (callerOf c) (at T t (callerOf c)) && (isProgram (at T t (callerOf c) .kind) && movesContent c)
 
   -- the answer to a caller who is not hidden
   abbrev pub heard : T .Table → Call A → List Answer

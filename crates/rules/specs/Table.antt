@@ -1,6 +1,6 @@
 -- Document 01, 'The table': slots, flow, conflict groups, and the form that refusal 99 asks for.
 -- Assumes nothing.
-use mathlib.Core.Bool.{Bool, true, false, cond, _&&_, _||_}
+use mathlib.Core.Bool.{Bool, true, false, cond, not, _&&_, _||_}
 use mathlib.Core.List.{List, [], _∷_}
 use Prim.Native.Nat.{ℕ}
 use lib.Dec.{ltb, leb, eqb}
@@ -54,6 +54,11 @@ module _ (A : Labels) where
 abbrev pub isEmpty : (A : Labels) → A .Label → Bool
 isEmpty A l = A .same l (A .empty)
 
+-- who holds so much keeps to each group
+abbrev pub keepsEach : (A : Labels) → List (A .Group) → A .Label → Bool
+keepsEach A [] l = true
+keepsEach A (g ∷ gs) l = A .keeps g l && keepsEach A gs l
+
 module _ {A : Labels} where
   abbrev pub noRights : Rights A
   noRights = record { sa = A .empty; sd = A .empty; ia = A .empty; id = A .empty }
@@ -66,38 +71,40 @@ module _ {A : Labels} where
   abbrev pub flow : Slot A → Slot A → Bool
   flow a b = A .below (a .sec) (b .sec) && A .below (b .int) (a .int)
 
-  -- the union of S, I and the four rights (003, Definition 5)
-  abbrev pub held : A .Label → A .Label → Rights A → A .Label
-  held s i r = A .join (A .join (A .join s i) (A .join (r .sa) (r .sd))) (A .join (r .ia) (r .id))
+  -- the union of an entity's S, I and four rights (003, Definition 5)
+  abbrev pub held : Slot A → A .Label
+  held e =
+      A .join (A .join (A .join (e .sec) (e .int)) (A .join (e .rights .sa) (e .rights .sd))) (A .join (e .rights .ia) (e .rights .id))
 
-  -- An entity with these keeps to a group when that union has at most one tag in common with it
-  abbrev pub keepsTo : A .Group → A .Label → A .Label → Rights A → Bool
-  keepsTo g s i r = leb (A .common (held s i r) g) 1
-
-  abbrev pub keepsAll : List (A .Group) → A .Label → A .Label → Rights A → Bool
-  keepsAll [] s i r = true
-  keepsAll (g ∷ gs) s i r = keepsTo g s i r && keepsAll gs s i r
+  -- An entity keeps to every group: that union does. What keeps to one group is the labels' own to say; of sets of tags it
+  -- is what has at most one tag in common with it
+  abbrev pub keepsAll : List (A .Group) → Slot A → Bool
+  keepsAll gs e = keepsEach A gs (held e)
 
   -- the entity of a slot, if there is one, keeps to every group
   abbrev pub slotKeeps : List (A .Group) → Slot A → Bool
-  slotKeeps gs e = isFree (e .kind) || keepsAll gs (e .sec) (e .int) (e .rights)
+  slotKeeps gs e = isFree (e .kind) || keepsAll gs e
 
-  -- ---- the form of a slot, for 99: at most 64 bytes; an item has no rights; a free slot has no tag, right or content
+  -- ---- the form of a slot, for 99
 
   abbrev pub rightless : Rights A → Bool
   rightless r = isEmpty A (r .sa) && (isEmpty A (r .sd) && (isEmpty A (r .ia) && isEmpty A (r .id)))
 
-  -- by its kind, S, I, rights and number of bytes
-  abbrev pub kindFormed : Kind → A .Label → A .Label → Rights A → ℕ → Bool
-  kindFormed Free s i r n = (isEmpty A s && isEmpty A i) && (rightless r && eqb n 0)
-  kindFormed Item s i r n = rightless r
-  kindFormed Program s i r n = true
+  -- neither tag nor right nor content; the number of bytes stands beside the slot, since a table may give a length that
+  -- its content cannot have
+  abbrev pub vacant : Slot A → ℕ → Bool
+  vacant e n = (isEmpty A (e .sec) && isEmpty A (e .int)) && (rightless (e .rights) && eqb n 0)
 
-  abbrev pub partsFormed : Kind → A .Label → A .Label → Rights A → ℕ → Bool
-  partsFormed k s i r n = leb n 64 && kindFormed k s i r n
+  -- an item has no rights, and a free slot is vacant
+  abbrev pub kindFormed : Slot A → ℕ → Bool
+  kindFormed e n = (not (isItem (e .kind)) || rightless (e .rights)) && (not (isFree (e .kind)) || vacant e n)
+
+  -- and there are at most 64 bytes
+  abbrev pub partsFormed : Slot A → ℕ → Bool
+  partsFormed e n = leb n 64 && kindFormed e n
 
   abbrev pub slotFormed : Slot A → Bool
-  slotFormed e = partsFormed (e .kind) (e .sec) (e .int) (e .rights) (length (e .content))
+  slotFormed e = partsFormed e (length (e .content))
 
 -- ---- tables
 

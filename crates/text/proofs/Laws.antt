@@ -1,23 +1,22 @@
 -- One step and the end of each definition over what is left of a list.
 -- Assumes nothing.
-use mathlib.Core.Path.{_≡_, refl, sym, ap, _∙_}
+use mathlib.Core.Path.{_≡_, refl, ap, _∙_}
 use mathlib.Core.Bool.{Bool, true, false, cond, _&&_}
 use mathlib.Core.Logic.{_⊎_, inl, inr}
 use mathlib.Core.List.{List, [], _∷_, _++_, append-assoc}
 use mathlib.Core.Option.{none, some}
-use Prim.Native.Nat.{ℕ, zero, suc, _+_, _*_, _-_, _≤_, _<_, _^_}
-use native.Mathlib.Nat.{suc-inj, le-trans}
+use Prim.Native.Nat.{ℕ, suc, _+_, _*_, _-_, _≤_, _<_}
 use native.Mathlib.Numerals.{add-one}
 use native.Mathlib.Decide.{decLe}
 use native.Mathlib.Omega.{arith}
-use lib.Dec.{eqb, leb, ltb}
+use lib.Dec.{eqb, ltb}
 use lib.ListN.{length, getD, take, drop, set, replicate, drop-of-length-le, length-drop, length-append, length-replicate}
 use lib.Seq.{drop-cons, take-all, take-nil, take-append-seam, set-append-seam, drop-drop}
 use borrow.Author.Tests.{eq-eqb, ne-eqb, lt-ltb, le-ltb, le-leb, lt-leb, ltb-true, ltb-false}
 use Rattle.label.specs.declared.Label.{Label}
 use Rattle.label.specs.Tags.{empty, withDigit}
-use Rattle.text.specs.Bytes.{eqBytes, indexOf, digitOf, decimalFrom, decimalOf, setFrom, setOf, pairsFrom, dataOf, dash}
-use Rattle.text.specs.Lines.{Lines, done, cut, line, before, linesOf, lineEnd, lineAt, nextLine, ahead, fieldsOf, hasName, hasNames, under}
+use Rattle.text.specs.Bytes.{eqBytes, indexOf, digitOf, decimalFrom, decimalOf, setFrom, hexSetOf, pairsFrom, dataOf, dash}
+use Rattle.text.specs.Lines.{Lines, done, cut, line, before, linesOf, lineEnd, lineAt, nextLine, ahead, fieldsIn, hasName, hasNames, under}
 use Rattle.text.specs.Answers.{room, noRoom}
 
 -- what is left of a list at a place before its end: that element, and what is left at the next place
@@ -144,17 +143,17 @@ module _ (l : Label) (s : List ℕ) (i : ℕ) where
     unfolding setFrom
     set-other k = rw (step s i h, setFrom, ← e, le-ltb _ _ k)
 
--- setOf
-pub set-none : (s : List ℕ) → length s < 1 → setOf s ≡ none
-unfolding setOf
+-- hexSetOf
+pub set-none : (s : List ℕ) → length s < 1 → hexSetOf s ≡ none
+unfolding hexSetOf
 set-none s h = simp (lt-leb _ _ h)
 
-pub set-long : (s : List ℕ) → 1 ≤ length s → 16 < length s → setOf s ≡ none
-unfolding setOf
+pub set-long : (s : List ℕ) → 1 ≤ length s → 16 < length s → hexSetOf s ≡ none
+unfolding hexSetOf
 set-long s h k = simp (le-leb _ _ h, lt-leb _ _ k)
 
-pub set-whole : (s : List ℕ) → 1 ≤ length s → length s ≤ 16 → setOf s ≡ setFrom empty s
-unfolding setOf
+pub set-whole : (s : List ℕ) → 1 ≤ length s → length s ≤ 16 → hexSetOf s ≡ setFrom empty s
+unfolding hexSetOf
 set-whole s h k = simp (le-leb _ _ h, le-leb _ _ k)
 
 -- what a part to the end holds
@@ -181,10 +180,10 @@ index-le b (x ∷ xs) = index-le-by b x xs (eqb x b) refl (index-le b xs)
 
 -- a line's first field and those after it
 abbrev Fields : List ℕ → Type 0
-Fields s = indexOf 32 s < length s → fieldsOf s ≡ take (indexOf 32 s) s ∷ fieldsOf (drop (suc (indexOf 32 s)) s)
+Fields s = indexOf 32 s < length s → fieldsIn s ≡ take (indexOf 32 s) s ∷ fieldsIn (drop (suc (indexOf 32 s)) s)
 
 fields-by : (b : ℕ) (bs : List ℕ) (t : Bool) → eqb b 32 ≡ t → Fields bs → Fields (b ∷ bs)
-unfolding fieldsOf ahead
+unfolding fieldsIn ahead
 fields-by b bs true e r h = rw (index-here 32 b bs e, e)
 fields-by b bs false e r h =
     let k : suc (indexOf 32 bs) < suc (length bs) = rw (index-next 32 b bs e) at h in
@@ -195,10 +194,10 @@ fields-more [] h = absurd (omega arith)
 fields-more (b ∷ bs) h = fields-by b bs (eqb b 32) refl (fields-more bs) h
 
 abbrev Field : List ℕ → Type 0
-Field s = length s ≤ indexOf 32 s → fieldsOf s ≡ s ∷ []
+Field s = length s ≤ indexOf 32 s → fieldsIn s ≡ s ∷ []
 
 field-by : (b : ℕ) (bs : List ℕ) (t : Bool) → eqb b 32 ≡ t → Field bs → Field (b ∷ bs)
-unfolding fieldsOf ahead
+unfolding fieldsIn ahead
 field-by b bs true e r h =
     let k : suc (length bs) ≤ 0 = rw (index-here 32 b bs e) at h in
     absurd (omega arith)
@@ -207,7 +206,7 @@ field-by b bs false e r h =
     rw (e, r (omega arith))
 
 pub fields-one : (s : List ℕ) → Field s
-unfolding fieldsOf
+unfolding fieldsIn
 fields-one [] h = refl
 fields-one (b ∷ bs) h = field-by b bs (eqb b 32) refl (fields-one bs) h
 
@@ -250,9 +249,9 @@ lines-cut (b ∷ bs) z h = cut-by b bs (eqb b 10) refl (lines-cut bs) z h
 
 -- the fields after a line's first
 restOf : List ℕ → List (List ℕ)
-restOf s = cond (ltb (indexOf 32 s) (length s)) (fieldsOf (drop (suc (indexOf 32 s)) s)) []
+restOf s = cond (ltb (indexOf 32 s) (length s)) (fieldsIn (drop (suc (indexOf 32 s)) s)) []
 
-rest-more : (s : List ℕ) → indexOf 32 s < length s → restOf s ≡ fieldsOf (drop (suc (indexOf 32 s)) s)
+rest-more : (s : List ℕ) → indexOf 32 s < length s → restOf s ≡ fieldsIn (drop (suc (indexOf 32 s)) s)
 unfolding restOf
 rest-more s h = rw (lt-ltb _ _ h)
 
@@ -260,14 +259,14 @@ rest-none : (s : List ℕ) → length s ≤ indexOf 32 s → restOf s ≡ []
 unfolding restOf
 rest-none s h = rw (le-ltb _ _ h)
 
-first-by : (s : List ℕ) → (indexOf 32 s < length s) ⊎ (length s ≤ indexOf 32 s) → fieldsOf s ≡ take (indexOf 32 s) s ∷ restOf s
+first-by : (s : List ℕ) → (indexOf 32 s < length s) ⊎ (length s ≤ indexOf 32 s) → fieldsIn s ≡ take (indexOf 32 s) s ∷ restOf s
 first-by s (inl h) = fields-more s h ∙ rw (rest-more s h)
 first-by s (inr h) = fields-one s h ∙ rw (rest-none s h, take-all (indexOf 32 s) s h)
 
 split : (a b : ℕ) → (b < a) ⊎ (a ≤ b)
 split a b = elim (decLe a b) [ yes p ↦ inr p | no q ↦ inl (omega arith) ]
 
-fields-first : (s : List ℕ) → fieldsOf s ≡ take (indexOf 32 s) s ∷ restOf s
+fields-first : (s : List ℕ) → fieldsIn s ≡ take (indexOf 32 s) s ∷ restOf s
 fields-first s = first-by s (split (length s) (indexOf 32 s))
 
 under-nil : (name : List ℕ) (hs : List (List ℕ)) → under name hs [] ≡ []
@@ -276,49 +275,49 @@ under-nil name [] = refl
 under-nil name (h ∷ hs) = refl
 
 module _ (name h f : List ℕ) (i j : ℕ) (ei : i ≡ indexOf 32 h) (ej : j ≡ indexOf 32 f) where
-  pub under-hit : eqBytes (take i h) name ≡ true → under name (fieldsOf h) (fieldsOf f) ≡ take j f
+  pub under-hit : eqBytes (take i h) name ≡ true → under name (fieldsIn h) (fieldsIn f) ≡ take j f
   unfolding under
   under-hit e = rw (fields-first h, fields-first f, ← ei, ← ej, e)
 
   module _ (e : eqBytes (take i h) name ≡ false) where
-    pub under-last : length h ≤ i → under name (fieldsOf h) (fieldsOf f) ≡ []
+    pub under-last : length h ≤ i → under name (fieldsIn h) (fieldsIn f) ≡ []
     unfolding under
     under-last l = rw (fields-first h, fields-first f, ← ei, e, rest-none h (omega arith))
 
-    pub under-short : length f ≤ j → under name (fieldsOf h) (fieldsOf f) ≡ []
+    pub under-short : length f ≤ j → under name (fieldsIn h) (fieldsIn f) ≡ []
     unfolding under
     under-short l = rw (fields-first h, fields-first f, ← ei, e, rest-none f (omega arith)) (under-nil name (restOf h))
 
-    pub under-next : i < length h → j < length f → under name (fieldsOf h) (fieldsOf f) ≡ under name (fieldsOf (drop (i + 1) h)) (fieldsOf (drop (j + 1) f))
+    pub under-next : i < length h → j < length f → under name (fieldsIn h) (fieldsIn f) ≡ under name (fieldsIn (drop (i + 1) h)) (fieldsIn (drop (j + 1) f))
     unfolding under
     under-next l k =
         rw (fields-first h, fields-first f, add-one i, add-one j, rest-more h (omega arith), rest-more f (omega arith), ← ei, ← ej, e)
 
 module _ (name h : List ℕ) (i : ℕ) (ei : i ≡ indexOf 32 h) where
-  pub has-hit : eqBytes (take i h) name ≡ true → hasName name (fieldsOf h) ≡ true
+  pub has-hit : eqBytes (take i h) name ≡ true → hasName name (fieldsIn h) ≡ true
   unfolding hasName
   has-hit e = rw (fields-first h, ← ei, e)
 
   module _ (e : eqBytes (take i h) name ≡ false) where
-    pub has-last : length h ≤ i → hasName name (fieldsOf h) ≡ false
+    pub has-last : length h ≤ i → hasName name (fieldsIn h) ≡ false
     unfolding hasName
     has-last l = rw (fields-first h, ← ei, e, rest-none h (omega arith))
 
-    pub has-next : i < length h → hasName name (fieldsOf h) ≡ hasName name (fieldsOf (drop (i + 1) h))
+    pub has-next : i < length h → hasName name (fieldsIn h) ≡ hasName name (fieldsIn (drop (i + 1) h))
     unfolding hasName
     has-next l = rw (fields-first h, add-one i, rest-more h (omega arith), ← ei, e)
 
 module _ (hs : List (List ℕ)) (n : List ℕ) (i : ℕ) (ei : i ≡ indexOf 32 n) where
-  pub all-miss : hasName (take i n) hs ≡ false → hasNames (fieldsOf n) hs ≡ false
+  pub all-miss : hasName (take i n) hs ≡ false → hasNames (fieldsIn n) hs ≡ false
   unfolding hasNames
   all-miss e = rw (fields-first n, hasNames, ← ei, e)
 
   module _ (e : hasName (take i n) hs ≡ true) where
-    pub all-last : length n ≤ i → hasNames (fieldsOf n) hs ≡ true
+    pub all-last : length n ≤ i → hasNames (fieldsIn n) hs ≡ true
     unfolding hasNames
     all-last l = rw (fields-first n, hasNames, ← ei, e, rest-none n (omega arith), hasNames)
 
-    pub all-next : i < length n → hasNames (fieldsOf n) hs ≡ hasNames (fieldsOf (drop (i + 1) n)) hs
+    pub all-next : i < length n → hasNames (fieldsIn n) hs ≡ hasNames (fieldsIn (drop (i + 1) n)) hs
     unfolding hasNames
     all-next l = rw (fields-first n, hasNames, add-one i, rest-more n (omega arith), ← ei, e)
 
@@ -329,17 +328,17 @@ length-ahead b [] = refl
 length-ahead b (f ∷ fs) = refl
 
 module _ (s : List ℕ) (i : ℕ) where
-  pub count-end : length s ≤ i → length (fieldsOf (drop i s)) ≡ 1
-  unfolding fieldsOf
+  pub count-end : length s ≤ i → length (fieldsIn (drop i s)) ≡ 1
+  unfolding fieldsIn
   count-end h = rw (at-end s i h)
 
-  pub count-space : i < length s → getD s i 0 ≡ 32 → length (fieldsOf (drop i s)) ≡ suc (length (fieldsOf (drop (i + 1) s)))
-  unfolding fieldsOf
-  count-space h e = rw (step s i h, fieldsOf, eq-eqb _ _ e)
+  pub count-space : i < length s → getD s i 0 ≡ 32 → length (fieldsIn (drop i s)) ≡ suc (length (fieldsIn (drop (i + 1) s)))
+  unfolding fieldsIn
+  count-space h e = rw (step s i h, fieldsIn, eq-eqb _ _ e)
 
-  pub count-other : i < length s → (getD s i 0 ≡ 32 → ⊥) → length (fieldsOf (drop i s)) ≡ length (fieldsOf (drop (i + 1) s))
-  unfolding fieldsOf
-  count-other h e = rw (step s i h, fieldsOf, ne-eqb _ _ e) (length-ahead _ _)
+  pub count-other : i < length s → (getD s i 0 ≡ 32 → ⊥) → length (fieldsIn (drop i s)) ≡ length (fieldsIn (drop (i + 1) s))
+  unfolding fieldsIn
+  count-other h e = rw (step s i h, fieldsIn, ne-eqb _ _ e) (length-ahead _ _)
 
 -- pairsFrom
 module _ (max : ℕ) (bs s : List ℕ) (i : ℕ) where

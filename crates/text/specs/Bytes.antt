@@ -46,8 +46,8 @@ unfoldable pub setFrom : Label → List ℕ → Option Label
 setFrom l [] = some l
 setFrom l (b ∷ bs) = cond (ltb (digitOf b) 16) (setFrom (withDigit l (digitOf b)) bs) none
 
-unfoldable pub setOf : List ℕ → Option Label
-setOf s = cond (leb 1 (length s) && leb (length s) 16) (setFrom empty s) none
+unfoldable pub hexSetOf : List ℕ → Option Label
+hexSetOf s = cond (leb 1 (length s) && leb (length s) 16) (setFrom empty s) none
 
 -- ---- data: `-` for empty, or two digits a byte, up to max bytes
 

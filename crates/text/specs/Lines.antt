@@ -1,6 +1,6 @@
 -- Document 01, 'The text': its lines, the fields of a line, and the field that stands under a name.
 -- Assumes nothing.
-use Prim.Native.Nat.{ℕ, zero, suc, _+_}
+use Prim.Native.Nat.{ℕ, _+_}
 use mathlib.Core.Bool.{Bool, true, false, cond, _&&_}
 use mathlib.Core.List.{List, [], _∷_}
 use lib.ListN.{length, take, drop}
@@ -43,9 +43,9 @@ unfoldable pub ahead : ℕ → List (List ℕ) → List (List ℕ)
 ahead b [] = []
 ahead b (f ∷ fs) = (b ∷ f) ∷ fs
 
-unfoldable pub fieldsOf : List ℕ → List (List ℕ)
-fieldsOf [] = [] ∷ []
-fieldsOf (b ∷ bs) = cond (eqb b 32) ([] ∷ fieldsOf bs) (ahead b (fieldsOf bs))
+unfoldable pub fieldsIn : List ℕ → List (List ℕ)
+fieldsIn [] = [] ∷ []
+fieldsIn (b ∷ bs) = cond (eqb b 32) ([] ∷ fieldsIn bs) (ahead b (fieldsIn bs))
 
 -- ---- names in any order, each once
 

@@ -1,12 +1,12 @@
 // The text of a table and its calls: byte strings, lines, fields, and what a field says.
 ghost use mathlib.Core.Path.{_≡_};
-ghost use Prim.Native.Nat.{ℕ, _+_, _*_, _<_, _≤_};
-ghost use mathlib.Core.List.{List, []};
+ghost use Prim.Native.Nat.{_+_, _*_, _<_};
+ghost use mathlib.Core.List.{[]};
 ghost use mathlib.Core.Option.{none, some};
-ghost use lib.ListN.{length, take, drop};
+ghost use lib.ListN.{length};
 ghost use Rattle.label.specs.Tags.{empty};
-ghost use Rattle.text.specs.Bytes.{eqBytes, indexOf, digitOf, decimalFrom, decimalOf, setFrom, setOf, pairsFrom, dataOf};
-ghost use Rattle.text.specs.Lines.{lineEnd, lineAt, nextLine, fieldsOf, hasName, hasNames, namesOnce, under};
+ghost use Rattle.text.specs.Bytes.{eqBytes, indexOf, digitOf, decimalFrom, decimalOf, setFrom, hexSetOf, pairsFrom, dataOf};
+ghost use Rattle.text.specs.Lines.{lineEnd, lineAt, nextLine, fieldsIn, hasName, hasNames, namesOnce, under};
 ghost use Rattle.text.specs.Answers.{asNumber, asTags, asData, noRoom};
 use label::Label;
 
@@ -49,16 +49,6 @@ pub fn same(a: &[u8], b: &[u8]) -> bool
         i += 1;
     }
     true
-}
-
-// The first n bytes; all of them where there are fewer.
-pub fn front<'a>(s: &'a [u8], n: usize) -> &'a [u8]
-    ensures { λ r. ⌜ now r ≡ take n (now (s .entry)) ⌝ }
-{
-    if n <= s.len() {
-        return &s[..n];
-    }
-    s
 }
 
 // The index of the first b, or the length where there is none.
@@ -151,7 +141,7 @@ fn hex_digits(s: &[u8]) -> Tags
 
 // A set: 1 to 16 hexadecimal digits.
 pub fn hex_set(s: &[u8]) -> Tags
-    ensures { λ r. ⌜ r ≡ asTags (setOf (now (s .entry))) ⌝ }
+    ensures { λ r. ⌜ r ≡ asTags (hexSetOf (now (s .entry))) ⌝ }
 {
     if s.len() < 1 {
         return Tags::Bad;
@@ -238,7 +228,7 @@ pub fn data_field(s: &[u8], max: u8) -> Data
 
 // The field of a row that stands under a name of the header.
 pub fn value<'a>(header: &[u8], row: &'a [u8], name: &[u8]) -> &'a [u8]
-    ensures { λ r. ⌜ now r ≡ under (now (name .entry)) (fieldsOf (now (header .entry))) (fieldsOf (now (row .entry))) ⌝ }
+    ensures { λ r. ⌜ now r ≡ under (now (name .entry)) (fieldsIn (now (header .entry))) (fieldsIn (now (row .entry))) ⌝ }
 {
     let mut h = header;
     let mut f = row;
@@ -261,7 +251,7 @@ pub fn value<'a>(header: &[u8], row: &'a [u8], name: &[u8]) -> &'a [u8]
 
 // Whether a name is among the names of a header.
 pub fn has(header: &[u8], name: &[u8]) -> bool
-    ensures { λ r. ⌜ r ≡ hasName (now (name .entry)) (fieldsOf (now (header .entry))) ⌝ }
+    ensures { λ r. ⌜ r ≡ hasName (now (name .entry)) (fieldsIn (now (header .entry))) ⌝ }
 {
     let mut h = header;
     loop {
@@ -278,7 +268,7 @@ pub fn has(header: &[u8], name: &[u8]) -> bool
 
 // Whether each of the names, with a space between them, is among the names of a header.
 fn has_all(header: &[u8], names: &[u8]) -> bool
-    ensures { λ r. ⌜ r ≡ hasNames (fieldsOf (now (names .entry))) (fieldsOf (now (header .entry))) ⌝ }
+    ensures { λ r. ⌜ r ≡ hasNames (fieldsIn (now (names .entry))) (fieldsIn (now (header .entry))) ⌝ }
 {
     let mut n = names;
     loop {
@@ -295,7 +285,7 @@ fn has_all(header: &[u8], names: &[u8]) -> bool
 
 // How many fields a line has.
 pub fn count(row: &[u8]) -> usize
-    ensures { λ r. ⌜ r ≡ length (fieldsOf (now (row .entry))) ⌝ }
+    ensures { λ r. ⌜ r ≡ length (fieldsIn (now (row .entry))) ⌝ }
 {
     let mut n: usize = 1;
     let mut i: usize = 0;
@@ -310,7 +300,7 @@ pub fn count(row: &[u8]) -> usize
 
 // Whether a line is a header of the names, each once, in any order.
 pub fn is_header(line: &[u8], names: &[u8]) -> bool
-    ensures { λ r. ⌜ r ≡ namesOnce (fieldsOf (now (names .entry))) (fieldsOf (now (line .entry))) ⌝ }
+    ensures { λ r. ⌜ r ≡ namesOnce (fieldsIn (now (names .entry))) (fieldsIn (now (line .entry))) ⌝ }
 {
     (count(line) == count(names)) & has_all(line, names)
 }

@@ -1,16 +1,14 @@
-use Prim.Native.Nat.{ℕ, _+_, _-_, _≤_, _<_}
-use mathlib.Core.Path.{_≡_, refl, sym, ap, ap₂, _∙_}
-use mathlib.Core.Bool.{true, false}
-use mathlib.Core.List.{List, [], _∷_, _++_}
+use Prim.Native.Nat.{ℕ, _+_, _-_, _≤_}
+use mathlib.Core.Path.{_≡_, refl, sym, ap, _∙_}
+use mathlib.Core.List.{List}
 use native.Mathlib.Omega.{arith}
 use lib.ListN.{length, drop}
 use borrow.Author.Tests.{not-true, not-false}
-use Rattle.text.specs.Lines.{linesOf, lineAt, fieldsOf}
+use Rattle.text.specs.Lines.{linesOf, lineAt, fieldsIn}
 use Rattle.text.proofs.Laws.{line-ends, line-here}
 use Rattle.rules.specs.Table.{keepsAll}
-use Rattle.label.specs.Words.{words}
 use Rattle.entity.specs.declared.Entity.{Entity}
-use Rattle.entity.specs.Entity.{rightsOf}
+use Rattle.entity.specs.Entity.{bare}
 use Rattle.monitor.specs.Table.{groupsOf}
 use Rattle.rows.specs.Entities.{entityOf, asEntityRow}
 use Rattle.load.specs.Tables.{breaking}
@@ -23,7 +21,7 @@ use Rattle.load.proofs.breaking_row.Tie as tie
 
 abbrev Inv-loop : tie.InvT-loop
 Inv-loop text header from table at₀ line₀ at line = (at ≤ length text) × (line ≤ at + 2)
-    × (breaking (fieldsOf header) (groupsOf table) line (linesOf (drop at text)) ≡ breaking (fieldsOf header) (groupsOf table) 2 (linesOf (drop from text)))
+    × (breaking (fieldsIn header) (groupsOf table) line (linesOf (drop at text)) ≡ breaking (fieldsIn header) (groupsOf table) 2 (linesOf (drop from text)))
 
 abbrev μ-loop : tie.MeasureT-loop
 μ-loop text header from table at₀ line₀ at line = length text - at
@@ -35,7 +33,7 @@ returns : tie.Need-returns Inv-loop μ-loop
 returns c =
     let l = c .before .before .loop in
     let e = line-ends (c .before .before .before .before .before .args .text .now) (c .before .before .loop .at) (c .before .line-end .result) (omega arith) (c .before .line-end .ensures) in
-    sym (breaking-over (fieldsOf (c .before .before .before .before .before .args .header .now)) (groupsOf (c .before .before .before .before .before .args .table)) (l .line) _ (e .none (c .if1 .taken))) ∙ l .inv .2
+    sym (breaking-over (fieldsIn (c .before .before .before .before .before .args .header .now)) (groupsOf (c .before .before .before .before .before .args .table)) (l .line) _ (e .none (c .if1 .taken))) ∙ l .inv .2
 
 enum-known-placed : tie.Need-enum-known-placed Inv-loop μ-loop
 enum-known-placed c = search needs
@@ -48,9 +46,9 @@ returns-2 c =
     let l = c .before .before .before .before .before .before .loop in
     let t = c .before .before .before .before .before .before .before .before .before .args .text .now in
     let h = line-here t (l .at) (c .before .before .before .before .before .line-end .result) (c .before .before .before .before .before .line-end .ensures) (omega arith) (c .before .before .before .before .if1 .left) in
-    let hs = fieldsOf (c .before .before .before .before .before .before .before .before .before .args .header .now) in
-    let o = entityOf hs (fieldsOf (lineAt t (l .at))) in
-    let q : c .before .before .entity-row .result ≡ asEntityRow o = c .before .before .entity-row .ensures ∙ ap (λ (x : List ℕ). asEntityRow (entityOf hs (fieldsOf x))) (c .before .before .before .line-at .ensures) in
+    let hs = fieldsIn (c .before .before .before .before .before .before .before .before .before .args .header .now) in
+    let o = entityOf hs (fieldsIn (lineAt t (l .at))) in
+    let q : c .before .before .entity-row .result ≡ asEntityRow o = c .before .before .entity-row .ensures ∙ ap (λ (x : List ℕ). asEntityRow (entityOf hs (fieldsIn x))) (c .before .before .before .line-at .ensures) in
     sym (breaking-none hs (groupsOf (c .before .before .before .before .before .before .before .before .before .args .table)) (l .line) (h .is) (row-none (c .before .before .entity-row .result) o q (c .enum-told .given .1))) ∙ l .inv .2
 
 returns-3 : tie.Need-returns-3 Inv-loop μ-loop
@@ -58,13 +56,13 @@ returns-3 c =
     let l = c .before .before .before .before .before .before .before .before .before .loop in
     let t = c .before .before .before .before .before .before .before .before .before .before .before .before .args .text .now in
     let h = line-here t (l .at) (c .before .before .before .before .before .before .before .before .line-end .result) (c .before .before .before .before .before .before .before .before .line-end .ensures) (omega arith) (c .before .before .before .before .before .before .before .if1 .left) in
-    let hs = fieldsOf (c .before .before .before .before .before .before .before .before .before .before .before .before .args .header .now) in
-    let o = entityOf hs (fieldsOf (lineAt t (l .at))) in
-    let q : c .before .before .before .before .before .entity-row .result ≡ asEntityRow o = c .before .before .before .before .before .entity-row .ensures ∙ ap (λ (x : List ℕ). asEntityRow (entityOf hs (fieldsOf x))) (c .before .before .before .before .before .before .line-at .ensures) in
+    let hs = fieldsIn (c .before .before .before .before .before .before .before .before .before .before .before .before .args .header .now) in
+    let o = entityOf hs (fieldsIn (lineAt t (l .at))) in
+    let q : c .before .before .before .before .before .entity-row .result ≡ asEntityRow o = c .before .before .before .before .before .entity-row .ensures ∙ ap (λ (x : List ℕ). asEntityRow (entityOf hs (fieldsIn x))) (c .before .before .before .before .before .before .line-at .ensures) in
     let y = row-some (c .before .before .before .before .before .entity-row .result) (c .before .before .before .placed .given .0 .0) (c .before .before .before .placed .given .0 .1 .0) o q (c .before .before .before .placed .given .1) in
-    let k : _ ≡ keepsAll {A = words} (groupsOf (c .before .before .before .before .before .before .before .before .before .before .before .before .args .table)) (y .entry .entity .sec) (y .entry .entity .int) (rightsOf (y .entry .entity)) =
-    c .before .keeps-all .ensures ∙ ap (λ (x : Entity). keepsAll {A = words} (groupsOf (c .before .before .before .before .before .before .before .before .before .before .before .before .args .table)) (x .sec) (x .int) (rightsOf x)) (y .entity) in
-    sym (breaking-here hs (groupsOf (c .before .before .before .before .before .before .before .before .before .before .before .before .args .table)) (l .line) (h .is) (y .entry) (y .is) (sym k ∙ not-true _ (c .if2 .taken))) ∙ l .inv .2
+    let k : _ ≡ keepsAll (groupsOf (c .before .before .before .before .before .before .before .before .before .before .before .before .args .table)) (bare (y .said .entity)) =
+    c .before .keeps-all .ensures ∙ ap (λ (x : Entity). keepsAll (groupsOf (c .before .before .before .before .before .before .before .before .before .before .before .before .args .table)) (bare x)) (y .entity) in
+    sym (breaking-here hs (groupsOf (c .before .before .before .before .before .before .before .before .before .before .before .before .args .table)) (l .line) (h .is) (y .said) (y .is) (sym k ∙ not-true _ (c .if2 .taken))) ∙ l .inv .2
 
 add-at : tie.Need-add-at Inv-loop μ-loop
 add-at c = search needs
@@ -80,15 +78,15 @@ loop-again c =
     let l = c .before .before .before .before .before .before .before .before .before .loop in
     let t = c .before .before .before .before .before .before .before .before .before .before .before .before .args .text .now in
     let h = line-here t (l .at) (c .before .before .before .before .before .before .before .before .line-end .result) (c .before .before .before .before .before .before .before .before .line-end .ensures) (omega arith) (c .before .before .before .before .before .before .before .if1 .left) in
-    let hs = fieldsOf (c .before .before .before .before .before .before .before .before .before .before .before .before .args .header .now) in
-    let o = entityOf hs (fieldsOf (lineAt t (l .at))) in
-    let q : c .before .before .before .before .before .entity-row .result ≡ asEntityRow o = c .before .before .before .before .before .entity-row .ensures ∙ ap (λ (x : List ℕ). asEntityRow (entityOf hs (fieldsOf x))) (c .before .before .before .before .before .before .line-at .ensures) in
+    let hs = fieldsIn (c .before .before .before .before .before .before .before .before .before .before .before .before .args .header .now) in
+    let o = entityOf hs (fieldsIn (lineAt t (l .at))) in
+    let q : c .before .before .before .before .before .entity-row .result ≡ asEntityRow o = c .before .before .before .before .before .entity-row .ensures ∙ ap (λ (x : List ℕ). asEntityRow (entityOf hs (fieldsIn x))) (c .before .before .before .before .before .before .line-at .ensures) in
     let y = row-some (c .before .before .before .before .before .entity-row .result) (c .before .before .before .placed .given .0 .0) (c .before .before .before .placed .given .0 .1 .0) o q (c .before .before .before .placed .given .1) in
-    let k : _ ≡ keepsAll {A = words} (groupsOf (c .before .before .before .before .before .before .before .before .before .before .before .before .args .table)) (y .entry .entity .sec) (y .entry .entity .int) (rightsOf (y .entry .entity)) =
-    c .before .keeps-all .ensures ∙ ap (λ (x : Entity). keepsAll {A = words} (groupsOf (c .before .before .before .before .before .before .before .before .before .before .before .before .args .table)) (x .sec) (x .int) (rightsOf x)) (y .entity) in (
+    let k : _ ≡ keepsAll (groupsOf (c .before .before .before .before .before .before .before .before .before .before .before .before .args .table)) (bare (y .said .entity)) =
+    c .before .keeps-all .ensures ∙ ap (λ (x : Entity). keepsAll (groupsOf (c .before .before .before .before .before .before .before .before .before .before .before .before .args .table)) (bare x)) (y .entity) in (
       omega arith,
       omega arith,
-      sym (breaking-step hs (groupsOf (c .before .before .before .before .before .before .before .before .before .before .before .before .args .table)) (l .line) (h .is) (y .entry) (y .is) (sym k ∙ not-false _ (c .if2 .left))) ∙ l .inv .2,
+      sym (breaking-step hs (groupsOf (c .before .before .before .before .before .before .before .before .before .before .before .before .args .table)) (l .line) (h .is) (y .said) (y .is) (sym k ∙ not-false _ (c .if2 .left))) ∙ l .inv .2,
     )
 
 pub breaking-row-spec : {M : Type 1} → statement M

@@ -1,5 +1,5 @@
-use mathlib.Core.Path.{refl, _∙_}
-use Rattle.load.specs.Round.{callAt}
+use mathlib.Core.Path.{_∙_}
+use Rattle.load.specs.CallsIn.{callAt}
 use Rattle.load.proofs.call_at.Statement.{statement}
 use Rattle.load.proofs.call_at.Tie as tie
 

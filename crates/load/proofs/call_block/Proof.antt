@@ -1,11 +1,11 @@
 use Prim.Native.Nat.{ℕ, _+_, _≤_, _<_}
-use mathlib.Core.Path.{_≡_, refl, sym, ap, ap₂, _∙_}
-use mathlib.Core.Bool.{true, false}
+use mathlib.Core.Path.{sym, ap, ap₂, _∙_}
+use mathlib.Core.Bool.{true}
 use mathlib.Core.List.{List}
 use native.Mathlib.Omega.{arith}
 use lib.ListN.{length, drop}
 use borrow.Author.Tests.{not-true, not-false}
-use Rattle.text.specs.Lines.{lineEnd, linesOf, fieldsOf, namesOnce}
+use Rattle.text.specs.Lines.{lineEnd, linesOf, fieldsIn, namesOnce}
 use Rattle.text.proofs.Laws.{line-ends}
 use Rattle.rows.specs.Names.{callNames}
 use Rattle.load.specs.Blocks.{rowsBad, callGood}
@@ -25,7 +25,7 @@ returns-2 : tie.Need-returns-2
 returns-2 c =
     let h : lineEnd (c .before .before .before .before .before .before .args .text .now) (c .before .before .before .before .before .before .args .p .at) < length (c .before .before .before .before .before .before .args .text .now) = rw (c .before .before .before .before .line-end .ensures) at (c .before .before .before .if1 .left) in
     sym (block-other callNames callGood true (c .before .before .before .before .before .before .args .text .now) (c .before .before .before .before .before .before .args .p) h
-    (ap (λ (x : List ℕ). namesOnce callNames (fieldsOf x)) (sym (c .before .before .line-at .ensures)) ∙ sym (c .before .is-call-header .ensures) ∙ not-true _ (c .if2 .taken)))
+    (ap (λ (x : List ℕ). namesOnce callNames (fieldsIn x)) (sym (c .before .before .line-at .ensures)) ∙ sym (c .before .is-call-header .ensures) ∙ not-true _ (c .if2 .taken)))
 
 add-call-rows : tie.Need-add-call-rows
 add-call-rows c = search needs
@@ -44,9 +44,9 @@ returns-3 c =
     let p = c .before .before .before .before .before .before .before .before .args .p in
     let h : lineEnd t (p .at) < length t = rw (c .before .before .before .before .before .before .line-end .ensures) at (c .before .before .before .before .before .if1 .left) in
     c .call-rows .ensures
-    ∙ ap₂ (λ (x : List ℕ) (m : ℕ). rowsBad (callGood (fieldsOf x)) true (p .line + 1) 0 (linesOf (drop m t))) (c .before .before .before .before .line-at .ensures) (next-is t (p .at) (c .before .before .before .before .before .before .line-end .result) (c .before .before .before .before .before .before .line-end .ensures) (c .before .before .before .before .before .if1 .left))
+    ∙ ap₂ (λ (x : List ℕ) (m : ℕ). rowsBad (callGood (fieldsIn x)) true (p .line + 1) 0 (linesOf (drop m t))) (c .before .before .before .before .line-at .ensures) (next-is t (p .at) (c .before .before .before .before .before .before .line-end .result) (c .before .before .before .before .before .before .line-end .ensures) (c .before .before .before .before .before .if1 .left))
     ∙ sym (block-names callNames callGood true t p h
-    (ap (λ (x : List ℕ). namesOnce callNames (fieldsOf x)) (sym (c .before .before .before .before .line-at .ensures)) ∙ sym (c .before .before .before .is-call-header .ensures) ∙ not-false _ (c .before .before .if2 .left)))
+    (ap (λ (x : List ℕ). namesOnce callNames (fieldsIn x)) (sym (c .before .before .before .before .line-at .ensures)) ∙ sym (c .before .before .before .is-call-header .ensures) ∙ not-false _ (c .before .before .if2 .left)))
 
 pub call-block-spec : {M : Type 1} → statement M
 call-block-spec =

@@ -1,10 +1,10 @@
-use Prim.Native.Nat.{ℕ, _+_, _-_, _≤_, _<_}
-use mathlib.Core.Path.{_≡_, refl, sym, ap, ap₂, _∙_}
-use mathlib.Core.Bool.{true, false}
+use Prim.Native.Nat.{_+_, _-_, _≤_}
+use mathlib.Core.Path.{_≡_, sym, _∙_}
+use mathlib.Core.Bool.{true}
 use native.Mathlib.Omega.{arith}
 use lib.ListN.{length, drop}
 use borrow.Author.Tests.{not-true, not-false}
-use Rattle.text.specs.Lines.{linesOf, lineAt, fieldsOf}
+use Rattle.text.specs.Lines.{linesOf, fieldsIn}
 use Rattle.text.proofs.Laws.{line-ends, line-here, lines-end}
 use Rattle.load.specs.Blocks.{rowsBad, callGood}
 use Rattle.load.proofs.Laws.{rows-done, rows-cut, last-bad, last-step}
@@ -16,7 +16,7 @@ use Rattle.load.proofs.call_rows.Tie as tie
 
 abbrev Inv-loop : tie.InvT-loop
 Inv-loop text header from first at₀ line₀ at line = (at ≤ length text) × (line ≤ at + 1) × (first ≤ line)
-    × (rowsBad (callGood (fieldsOf header)) true line (line - first) (linesOf (drop at text)) ≡ rowsBad (callGood (fieldsOf header)) true first 0 (linesOf (drop from text)))
+    × (rowsBad (callGood (fieldsIn header)) true line (line - first) (linesOf (drop at text)) ≡ rowsBad (callGood (fieldsIn header)) true first 0 (linesOf (drop from text)))
 
 abbrev μ-loop : tie.MeasureT-loop
 μ-loop text header from first at₀ line₀ at line = length text - at
@@ -36,7 +36,7 @@ returns-2 c =
     let l = c .before .before .before .before .before .before .loop in
     let t = c .before .before .before .before .before .before .before .before .before .args .text .now in
     let h = line-here t (l .at) (c .before .before .before .before .line-end .result) (c .before .before .before .before .line-end .ensures) (omega arith) (c .before .before .before .if1 .left) in
-    sym (last-bad (callGood (fieldsOf (c .before .before .before .before .before .before .before .before .before .args .header .now))) (l .line) (l .line - c .before .before .before .before .before .before .before .before .before .args .first) (h .is)
+    sym (last-bad (callGood (fieldsIn (c .before .before .before .before .before .before .before .before .before .args .header .now))) (l .line) (l .line - c .before .before .before .before .before .before .before .before .before .args .first) (h .is)
     (rw (← c .before .before .line-at .ensures) (sym (c .before .is-call .ensures) ∙ not-true _ (c .if2 .taken)))) ∙ l .inv .3
 
 add-at : tie.Need-add-at Inv-loop μ-loop
@@ -58,7 +58,7 @@ loop-again c =
       omega arith,
       omega arith,
       omega arith,
-      rw z (sym (last-step (callGood (fieldsOf (c .before .before .before .before .before .before .before .before .before .args .header .now))) (l .line) (l .line - c .before .before .before .before .before .before .before .before .before .args .first) (h .is)
+      rw z (sym (last-step (callGood (fieldsIn (c .before .before .before .before .before .before .before .before .before .args .header .now))) (l .line) (l .line - c .before .before .before .before .before .before .before .before .before .args .first) (h .is)
           (rw (← c .before .before .line-at .ensures) (sym (c .before .is-call .ensures) ∙ not-false _ (c .if2 .left)))) ∙ l .inv .3),
     )
 

@@ -1,4 +1,4 @@
-use mathlib.Core.Path.{_≡_, ap}
+use mathlib.Core.Path.{ap}
 use Rattle.load.specs.declared.Place.{Place}
 use Rattle.load.proofs.calls_at.Statement.{statement}
 use Rattle.load.proofs.calls_at.Tie as tie

@@ -1,4 +1,4 @@
-use mathlib.Core.Path.{_≡_, ap, _∙_}
+use mathlib.Core.Path.{ap, _∙_}
 use Rattle.load.specs.Blocks.{pastEmpty, callsAt}
 use Rattle.load.proofs.calls_place.Statement.{statement}
 use Rattle.load.proofs.calls_place.Tie as tie

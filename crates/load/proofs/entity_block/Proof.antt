@@ -1,11 +1,11 @@
 use Prim.Native.Nat.{ℕ, _+_, _≤_, _<_}
-use mathlib.Core.Path.{_≡_, refl, sym, ap, ap₂, _∙_}
-use mathlib.Core.Bool.{true, false}
+use mathlib.Core.Path.{sym, ap, ap₂, _∙_}
+use mathlib.Core.Bool.{false}
 use mathlib.Core.List.{List}
 use native.Mathlib.Omega.{arith}
 use lib.ListN.{length, drop}
 use borrow.Author.Tests.{not-true, not-false}
-use Rattle.text.specs.Lines.{lineEnd, linesOf, fieldsOf, namesOnce}
+use Rattle.text.specs.Lines.{lineEnd, linesOf, fieldsIn, namesOnce}
 use Rattle.text.proofs.Laws.{line-ends}
 use Rattle.rows.specs.Names.{entityNames}
 use Rattle.load.specs.Blocks.{rowsBad, entityGood}
@@ -25,7 +25,7 @@ returns-2 : tie.Need-returns-2
 returns-2 c =
     let h : lineEnd (c .before .before .before .before .before .before .args .text .now) (c .before .before .before .before .before .before .args .p .at) < length (c .before .before .before .before .before .before .args .text .now) = rw (c .before .before .before .before .line-end .ensures) at (c .before .before .before .if1 .left) in
     sym (block-other entityNames entityGood false (c .before .before .before .before .before .before .args .text .now) (c .before .before .before .before .before .before .args .p) h
-    (ap (λ (x : List ℕ). namesOnce entityNames (fieldsOf x)) (sym (c .before .before .line-at .ensures)) ∙ sym (c .before .is-entity-header .ensures) ∙ not-true _ (c .if2 .taken)))
+    (ap (λ (x : List ℕ). namesOnce entityNames (fieldsIn x)) (sym (c .before .before .line-at .ensures)) ∙ sym (c .before .is-entity-header .ensures) ∙ not-true _ (c .if2 .taken)))
 
 add-entity-rows : tie.Need-add-entity-rows
 add-entity-rows c = search needs
@@ -44,9 +44,9 @@ returns-3 c =
     let p = c .before .before .before .before .before .before .before .before .args .p in
     let h : lineEnd t (p .at) < length t = rw (c .before .before .before .before .before .before .line-end .ensures) at (c .before .before .before .before .before .if1 .left) in
     c .entity-rows .ensures
-    ∙ ap₂ (λ (x : List ℕ) (m : ℕ). rowsBad (entityGood (fieldsOf x)) false (p .line + 1) 0 (linesOf (drop m t))) (c .before .before .before .before .line-at .ensures) (next-is t (p .at) (c .before .before .before .before .before .before .line-end .result) (c .before .before .before .before .before .before .line-end .ensures) (c .before .before .before .before .before .if1 .left))
+    ∙ ap₂ (λ (x : List ℕ) (m : ℕ). rowsBad (entityGood (fieldsIn x)) false (p .line + 1) 0 (linesOf (drop m t))) (c .before .before .before .before .line-at .ensures) (next-is t (p .at) (c .before .before .before .before .before .before .line-end .result) (c .before .before .before .before .before .before .line-end .ensures) (c .before .before .before .before .before .if1 .left))
     ∙ sym (block-names entityNames entityGood false t p h
-    (ap (λ (x : List ℕ). namesOnce entityNames (fieldsOf x)) (sym (c .before .before .before .before .line-at .ensures)) ∙ sym (c .before .before .before .is-entity-header .ensures) ∙ not-false _ (c .before .before .if2 .left)))
+    (ap (λ (x : List ℕ). namesOnce entityNames (fieldsIn x)) (sym (c .before .before .before .before .line-at .ensures)) ∙ sym (c .before .before .before .is-entity-header .ensures) ∙ not-false _ (c .before .before .if2 .left)))
 
 pub entity-block-spec : {M : Type 1} → statement M
 entity-block-spec =

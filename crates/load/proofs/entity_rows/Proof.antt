@@ -1,10 +1,10 @@
-use Prim.Native.Nat.{ℕ, _+_, _-_, _≤_, _<_}
-use mathlib.Core.Path.{_≡_, refl, sym, ap, ap₂, _∙_}
-use mathlib.Core.Bool.{true, false}
+use Prim.Native.Nat.{_+_, _-_, _≤_}
+use mathlib.Core.Path.{_≡_, sym, _∙_}
+use mathlib.Core.Bool.{false}
 use native.Mathlib.Omega.{arith}
 use lib.ListN.{length, drop}
 use borrow.Author.Tests.{not-true, not-false}
-use Rattle.text.specs.Lines.{linesOf, lineAt, fieldsOf}
+use Rattle.text.specs.Lines.{linesOf, fieldsIn}
 use Rattle.text.proofs.Laws.{line-ends, line-here}
 use Rattle.load.specs.Blocks.{rowsBad, entityGood}
 use Rattle.load.proofs.Laws.{length-line, rows-over, rows-empty, rows-bad, rows-step}
@@ -16,7 +16,7 @@ use Rattle.load.proofs.entity_rows.Tie as tie
 
 abbrev Inv-loop : tie.InvT-loop
 Inv-loop text header from first at₀ line₀ at line = (at ≤ length text) × (line ≤ at + 1) × (first ≤ line)
-    × (rowsBad (entityGood (fieldsOf header)) false line (line - first) (linesOf (drop at text)) ≡ rowsBad (entityGood (fieldsOf header)) false first 0 (linesOf (drop from text)))
+    × (rowsBad (entityGood (fieldsIn header)) false line (line - first) (linesOf (drop at text)) ≡ rowsBad (entityGood (fieldsIn header)) false first 0 (linesOf (drop from text)))
 
 abbrev μ-loop : tie.MeasureT-loop
 μ-loop text header from first at₀ line₀ at line = length text - at
@@ -37,7 +37,7 @@ returns-2 c =
     let e = line-ends t (l .at) (c .before .before .line-end .result) (omega arith) (c .before .before .line-end .ensures) in
     let h = line-here t (l .at) (c .before .before .line-end .result) (c .before .before .line-end .ensures) (omega arith) (c .before .if1 .left) in
     let n = length-line t (l .at) (c .before .before .line-end .result) (omega arith) (c .before .before .line-end .ensures) in
-    sym (rows-empty (entityGood (fieldsOf (c .before .before .before .before .before .before .args .header .now))) (l .line) (l .line - c .before .before .before .before .before .before .args .first) (h .is) (omega arith)) ∙ l .inv .3
+    sym (rows-empty (entityGood (fieldsIn (c .before .before .before .before .before .before .args .header .now))) (l .line) (l .line - c .before .before .before .before .before .before .args .first) (h .is) (omega arith)) ∙ l .inv .3
 
 returns-3 : tie.Need-returns-3 Inv-loop μ-loop
 unfolding entityGood
@@ -46,7 +46,7 @@ returns-3 c =
     let t = c .before .before .before .before .before .before .before .before .before .args .text .now in
     let h = line-here t (l .at) (c .before .before .before .before .before .line-end .result) (c .before .before .before .before .before .line-end .ensures) (omega arith) (c .before .before .before .before .if1 .left) in
     let n = length-line t (l .at) (c .before .before .before .before .before .line-end .result) (omega arith) (c .before .before .before .before .before .line-end .ensures) in
-    sym (rows-bad (entityGood (fieldsOf (c .before .before .before .before .before .before .before .before .before .args .header .now))) (l .line) (l .line - c .before .before .before .before .before .before .before .before .before .args .first) (h .is) (omega arith)
+    sym (rows-bad (entityGood (fieldsIn (c .before .before .before .before .before .before .before .before .before .args .header .now))) (l .line) (l .line - c .before .before .before .before .before .before .before .before .before .args .first) (h .is) (omega arith)
     (rw (← c .before .before .line-at .ensures) (sym (c .before .is-entity .ensures) ∙ not-true _ (c .if3 .taken)))) ∙ l .inv .3
 
 add-at : tie.Need-add-at Inv-loop μ-loop
@@ -69,7 +69,7 @@ loop-again c =
       omega arith,
       omega arith,
       omega arith,
-      rw z (sym (rows-step (entityGood (fieldsOf (c .before .before .before .before .before .before .before .before .before .args .header .now))) (l .line) (l .line - c .before .before .before .before .before .before .before .before .before .args .first) (h .is) (omega arith)
+      rw z (sym (rows-step (entityGood (fieldsIn (c .before .before .before .before .before .before .before .before .before .args .header .now))) (l .line) (l .line - c .before .before .before .before .before .before .before .before .before .args .first) (h .is) (omega arith)
           (rw (← c .before .before .line-at .ensures) (sym (c .before .is-entity .ensures) ∙ not-false _ (c .if3 .left)))) ∙ l .inv .3),
     )
 

@@ -1,11 +1,10 @@
-use Prim.Native.Nat.{ℕ, _+_, _-_, _≤_, _<_}
-use mathlib.Core.Path.{_≡_, refl, sym, ap, ap₂, _∙_}
-use mathlib.Core.Bool.{true, false}
-use mathlib.Core.List.{List, [], _∷_, _++_}
+use Prim.Native.Nat.{ℕ, _+_, _-_, _≤_}
+use mathlib.Core.Path.{_≡_, sym, ap, _∙_}
+use mathlib.Core.List.{List}
 use native.Mathlib.Omega.{arith}
 use lib.ListN.{length, drop}
 use borrow.Author.Tests.{not-true, not-false}
-use Rattle.text.specs.Lines.{linesOf, lineAt, fieldsOf}
+use Rattle.text.specs.Lines.{linesOf, lineAt, fieldsIn}
 use Rattle.text.proofs.Laws.{line-ends, line-here}
 use Rattle.rules.specs.Table.{isFree}
 use Rattle.entity.specs.declared.Entity.{Entity}
@@ -22,7 +21,7 @@ use Rattle.load.proofs.fill_rows.Tie as tie
 
 abbrev Inv-loop : tie.InvT-loop
 Inv-loop text header from table₀ at₀ line₀ table at line = (at ≤ length text) × (line ≤ at + 2)
-    × (fill (fieldsOf header) line table (linesOf (drop at text)) ≡ fill (fieldsOf header) 2 emptyTable (linesOf (drop from text)))
+    × (fill (fieldsIn header) line table (linesOf (drop at text)) ≡ fill (fieldsIn header) 2 emptyTable (linesOf (drop from text)))
 
 abbrev μ-loop : tie.MeasureT-loop
 μ-loop text header from table₀ at₀ line₀ table at line = length text - at
@@ -34,7 +33,7 @@ returns : tie.Need-returns Inv-loop μ-loop
 returns c =
     let l = c .before .before .loop in
     let e = line-ends (c .before .before .before .before .before .before .args .text .now) (c .before .before .loop .at) (c .before .line-end .result) (omega arith) (c .before .line-end .ensures) in
-    sym (fill-over (fieldsOf (c .before .before .before .before .before .before .args .header .now)) (l .line) (l .table) _ (e .none (c .if1 .taken))) ∙ l .inv .2
+    sym (fill-over (fieldsIn (c .before .before .before .before .before .before .args .header .now)) (l .line) (l .table) _ (e .none (c .if1 .taken))) ∙ l .inv .2
 
 enum-known-placed : tie.Need-enum-known-placed Inv-loop μ-loop
 enum-known-placed c = search needs
@@ -47,9 +46,9 @@ returns-2 c =
     let l = c .before .before .before .before .before .before .loop in
     let t = c .before .before .before .before .before .before .before .before .before .before .args .text .now in
     let h = line-here t (l .at) (c .before .before .before .before .before .line-end .result) (c .before .before .before .before .before .line-end .ensures) (omega (arith, l .inv .0)) (c .before .before .before .before .if1 .left) in
-    let hs = fieldsOf (c .before .before .before .before .before .before .before .before .before .before .args .header .now) in
-    let o = entityOf hs (fieldsOf (lineAt t (l .at))) in
-    let q : c .before .before .entity-row .result ≡ asEntityRow o = c .before .before .entity-row .ensures ∙ ap (λ (x : List ℕ). asEntityRow (entityOf hs (fieldsOf x))) (c .before .before .before .line-at .ensures) in
+    let hs = fieldsIn (c .before .before .before .before .before .before .before .before .before .before .args .header .now) in
+    let o = entityOf hs (fieldsIn (lineAt t (l .at))) in
+    let q : c .before .before .entity-row .result ≡ asEntityRow o = c .before .before .entity-row .ensures ∙ ap (λ (x : List ℕ). asEntityRow (entityOf hs (fieldsIn x))) (c .before .before .before .line-at .ensures) in
     sym (fill-none hs (l .line) (l .table) (h .is) (row-none (c .before .before .entity-row .result) o q (c .enum-told .given .1))) ∙ l .inv .2
 
 returns-3 : tie.Need-returns-3 Inv-loop μ-loop
@@ -57,12 +56,12 @@ returns-3 c =
     let l = c .before .before .before .before .before .before .before .before .before .before .loop in
     let t = c .before .before .before .before .before .before .before .before .before .before .before .before .before .before .args .text .now in
     let h = line-here t (l .at) (c .before .before .before .before .before .before .before .before .before .line-end .result) (c .before .before .before .before .before .before .before .before .before .line-end .ensures) (omega (arith, l .inv .0)) (c .before .before .before .before .before .before .before .before .if1 .left) in
-    let hs = fieldsOf (c .before .before .before .before .before .before .before .before .before .before .before .before .before .before .args .header .now) in
-    let o = entityOf hs (fieldsOf (lineAt t (l .at))) in
-    let q : c .before .before .before .before .before .before .entity-row .result ≡ asEntityRow o = c .before .before .before .before .before .before .entity-row .ensures ∙ ap (λ (x : List ℕ). asEntityRow (entityOf hs (fieldsOf x))) (c .before .before .before .before .before .before .before .line-at .ensures) in
+    let hs = fieldsIn (c .before .before .before .before .before .before .before .before .before .before .before .before .before .before .args .header .now) in
+    let o = entityOf hs (fieldsIn (lineAt t (l .at))) in
+    let q : c .before .before .before .before .before .before .entity-row .result ≡ asEntityRow o = c .before .before .before .before .before .before .entity-row .ensures ∙ ap (λ (x : List ℕ). asEntityRow (entityOf hs (fieldsIn x))) (c .before .before .before .before .before .before .before .line-at .ensures) in
     let y = row-some (c .before .before .before .before .before .before .entity-row .result) (c .before .before .before .before .placed .given .0 .0) (c .before .before .before .before .placed .given .0 .1 .0) o q (c .before .before .before .before .placed .given .1) in
     let f = ap (λ (k : ℕ). isFree (entityAt (l .table) k .kind)) (sym (y .slot)) ∙ ap (λ (x : Entity). isFree (x .kind)) (sym (c .before .before .entity .ensures)) ∙ sym (c .before .is-free .ensures) in
-    sym (fill-twice hs (l .line) (l .table) (h .is) (y .entry) (y .is) (f ∙ not-true _ (c .if2 .taken))) ∙ l .inv .2
+    sym (fill-twice hs (l .line) (l .table) (h .is) (y .said) (y .is) (f ∙ not-true _ (c .if2 .taken))) ∙ l .inv .2
 
 add-at : tie.Need-add-at Inv-loop μ-loop
 add-at c = omega (arith, c .before .before .before .before .before .before .before .before .before .before .if1 .left, c .before .before .before .before .before .before .before .before .before .before .before .before .before .before .before .before .pre .1)
@@ -78,9 +77,9 @@ loop-again c =
     let l = c .before .before .before .before .before .before .before .before .before .before .before .before .loop in
     let t = c .before .before .before .before .before .before .before .before .before .before .before .before .before .before .before .before .args .text .now in
     let h = line-here t (l .at) (c .before .before .before .before .before .before .before .before .before .before .before .line-end .result) (c .before .before .before .before .before .before .before .before .before .before .before .line-end .ensures) (omega (arith, l .inv .0)) (c .before .before .before .before .before .before .before .before .before .before .if1 .left) in
-    let hs = fieldsOf (c .before .before .before .before .before .before .before .before .before .before .before .before .before .before .before .before .args .header .now) in
-    let o = entityOf hs (fieldsOf (lineAt t (l .at))) in
-    let q : c .before .before .before .before .before .before .before .before .entity-row .result ≡ asEntityRow o = c .before .before .before .before .before .before .before .before .entity-row .ensures ∙ ap (λ (x : List ℕ). asEntityRow (entityOf hs (fieldsOf x))) (c .before .before .before .before .before .before .before .before .before .line-at .ensures) in
+    let hs = fieldsIn (c .before .before .before .before .before .before .before .before .before .before .before .before .before .before .before .before .args .header .now) in
+    let o = entityOf hs (fieldsIn (lineAt t (l .at))) in
+    let q : c .before .before .before .before .before .before .before .before .entity-row .result ≡ asEntityRow o = c .before .before .before .before .before .before .before .before .entity-row .ensures ∙ ap (λ (x : List ℕ). asEntityRow (entityOf hs (fieldsIn x))) (c .before .before .before .before .before .before .before .before .before .line-at .ensures) in
     let y = row-some (c .before .before .before .before .before .before .before .before .entity-row .result) (c .before .before .before .before .before .before .placed .given .0 .0) (c .before .before .before .before .before .before .placed .given .0 .1 .0) o q (c .before .before .before .before .before .before .placed .given .1) in
     let f = ap (λ (k : ℕ). isFree (entityAt (l .table) k .kind)) (sym (y .slot)) ∙ ap (λ (x : Entity). isFree (x .kind)) (sym (c .before .before .before .before .entity .ensures)) ∙ sym (c .before .before .before .is-free .ensures) in
     let w : c .with-slot .result ≡ _ = c .with-slot .ensures ∙ (λ i. withSlot (l .table) (y .slot i) (y .entity i) (y .block i)) in
@@ -88,7 +87,7 @@ loop-again c =
       omega (arith, c .before .before .before .before .before .before .before .before .before .before .if1 .left),
       omega (arith, l .inv .1, e .low),
       ap (λ (u : Table). fill hs (l .line + 1) u (linesOf (drop (c .before .before .before .before .before .before .before .before .before .before .before .line-end .result + 1) t))) w
-          ∙ sym (fill-step hs (l .line) (l .table) (h .is) (y .entry) (y .is) (f ∙ not-false _ (c .before .before .if2 .left))) ∙ l .inv .2,
+          ∙ sym (fill-step hs (l .line) (l .table) (h .is) (y .said) (y .is) (f ∙ not-false _ (c .before .before .if2 .left))) ∙ l .inv .2,
     )
 
 pub fill-rows-spec : {M : Type 1} → statement M

@@ -1,11 +1,11 @@
 use Prim.Native.Nat.{ℕ, _+_, _≤_, _<_}
-use mathlib.Core.Path.{_≡_, refl, sym, ap, ap₂, _∙_}
-use mathlib.Core.Bool.{true, false}
+use mathlib.Core.Path.{sym, ap, _∙_}
+use mathlib.Core.Bool.{false}
 use mathlib.Core.List.{List}
 use native.Mathlib.Omega.{arith}
 use lib.ListN.{length, drop}
 use borrow.Author.Tests.{not-true, not-false}
-use Rattle.text.specs.Lines.{lineEnd, linesOf, fieldsOf, namesOnce}
+use Rattle.text.specs.Lines.{lineEnd, linesOf, fieldsIn, namesOnce}
 use Rattle.text.proofs.Laws.{line-ends}
 use Rattle.rows.specs.Names.{groupNames}
 use Rattle.load.specs.Blocks.{rowsBad, groupGood, namesAt}
@@ -25,7 +25,7 @@ returns-2 : tie.Need-returns-2
 returns-2 c =
     let h : lineEnd (c .before .before .before .before .before .before .args .text .now) (c .before .before .before .before .before .before .args .p .at) < length (c .before .before .before .before .before .before .args .text .now) = rw (c .before .before .before .before .line-end .ensures) at (c .before .before .before .if1 .left) in
     sym (block-other groupNames groupGood false (c .before .before .before .before .before .before .args .text .now) (c .before .before .before .before .before .before .args .p) h
-    (ap (λ (x : List ℕ). namesOnce groupNames (fieldsOf x)) (sym (c .before .before .line-at .ensures)) ∙ sym (c .before .is-group-header .ensures) ∙ not-true _ (c .if2 .taken)))
+    (ap (λ (x : List ℕ). namesOnce groupNames (fieldsIn x)) (sym (c .before .before .line-at .ensures)) ∙ sym (c .before .is-group-header .ensures) ∙ not-true _ (c .if2 .taken)))
 
 add-group-rows : tie.Need-add-group-rows
 add-group-rows c = search needs
@@ -46,7 +46,7 @@ returns-3 c =
     c .group-rows .ensures (namesAt t p)
     ∙ ap (λ (m : ℕ). rowsBad (groupGood (namesAt t p)) false (p .line + 1) 0 (linesOf (drop m t))) (next-is t (p .at) (c .before .before .before .before .before .before .line-end .result) (c .before .before .before .before .before .before .line-end .ensures) (c .before .before .before .before .before .if1 .left))
     ∙ sym (block-names groupNames groupGood false t p h
-    (ap (λ (x : List ℕ). namesOnce groupNames (fieldsOf x)) (sym (c .before .before .before .before .line-at .ensures)) ∙ sym (c .before .before .before .is-group-header .ensures) ∙ not-false _ (c .before .before .if2 .left)))
+    (ap (λ (x : List ℕ). namesOnce groupNames (fieldsIn x)) (sym (c .before .before .before .before .line-at .ensures)) ∙ sym (c .before .before .before .is-group-header .ensures) ∙ not-false _ (c .before .before .if2 .left)))
 
 pub group-block-spec : {M : Type 1} → statement M
 group-block-spec =

@@ -1,11 +1,11 @@
-use Prim.Native.Nat.{ℕ, _+_, _-_, _≤_, _<_}
-use mathlib.Core.Path.{_≡_, refl, sym, ap, ap₂, _∙_}
-use mathlib.Core.Bool.{true, false}
+use Prim.Native.Nat.{ℕ, _+_, _-_, _≤_}
+use mathlib.Core.Path.{_≡_, refl, sym, _∙_}
+use mathlib.Core.Bool.{false}
 use mathlib.Core.List.{List}
 use native.Mathlib.Omega.{arith}
 use lib.ListN.{length, drop}
 use borrow.Author.Tests.{not-true, not-false, lt-ltb, le-ltb}
-use Rattle.text.specs.Lines.{linesOf, lineAt}
+use Rattle.text.specs.Lines.{linesOf}
 use Rattle.text.proofs.Laws.{line-ends, line-here}
 use Rattle.load.specs.Blocks.{rowsBad, groupGood}
 use Rattle.load.proofs.Laws.{length-line, rows-over, rows-empty, rows-bad, rows-step}

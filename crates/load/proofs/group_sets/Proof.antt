@@ -1,17 +1,15 @@
-use Prim.Native.Nat.{ℕ, _+_, _-_, _≤_, _<_}
-use mathlib.Core.Path.{_≡_, refl, sym, ap, ap₂, _∙_}
-use mathlib.Core.Bool.{true, false}
-use mathlib.Core.List.{List, [], _∷_, _++_}
+use Prim.Native.Nat.{_+_, _-_, _≤_}
+use mathlib.Core.Path.{_≡_, refl, sym, ap, _∙_}
+use mathlib.Core.List.{[], _∷_, _++_}
 use native.Mathlib.Omega.{arith}
-use lib.ListN.{length, drop}
-use borrow.Author.Tests.{not-true, not-false}
-use Rattle.text.specs.Lines.{linesOf, lineAt, fieldsOf}
+use lib.ListN.{length}
+use Rattle.text.specs.Lines.{lineAt}
 use Rattle.text.proofs.Laws.{line-ends, line-here}
 use mathlib.Core.Option.{none, some}
 use lib.ListN.{length-append, length-set}
-use Rattle.text.specs.Bytes.{setOf}
+use Rattle.text.specs.Bytes.{hexSetOf}
 use Rattle.rows.proofs.Laws.{tags-some, tags-none}
-use Rattle.load.specs.Tables.{grouped, groupsFrom}
+use Rattle.load.specs.Tables.{grouped}
 use Rattle.load.proofs.Tables.{Gathered, groups-over, groups-none, groups-full, groups-step, groups-length, grouped-none, grouped-more}
 use borrow.Author.Needs.{needs}
 use Rattle.load.proofs.group_sets.Statement.{statement}
@@ -52,7 +50,7 @@ returns-2 c =
     let t = c .before .before .before .before .before .before .before .before .before .args .text .now in
     let h = line-here t (l .at) (c .before .before .before .before .before .line-end .result) (c .before .before .before .before .before .line-end .ensures) (omega arith) (c .before .before .before .before .if1 .left) in
     let g = l .inv .2 in
-    let s : setOf (lineAt t (l .at)) ≡ none = ap setOf (sym (c .before .before .before .line-at .ensures)) ∙ tags-none (setOf (c .before .before .before .line-at .result .now)) (c .before .before .hex-set .ensures) (c .enum-told .given .1) in
+    let s : hexSetOf (lineAt t (l .at)) ≡ none = ap hexSetOf (sym (c .before .before .before .line-at .ensures)) ∙ tags-none (hexSetOf (c .before .before .before .line-at .result .now)) (c .before .before .hex-set .ensures) (c .enum-told .given .1) in
     let z = sym (g .count) in
     rw (z, g .kept) (ap grouped (sym (groups-none (g .gs) (h .is) s) ∙ g .says))
 
@@ -63,7 +61,7 @@ returns-3 c =
     let t = c .before .before .before .before .before .before .before .before .before .before .before .args .text .now in
     let h = line-here t (l .at) (c .before .before .before .before .before .before .before .line-end .result) (c .before .before .before .before .before .before .before .line-end .ensures) (omega arith) (c .before .before .before .before .before .before .if1 .left) in
     let g = l .inv .2 in
-    let s : setOf (lineAt t (l .at)) ≡ some (c .before .before .set .given .0 .0) = ap setOf (sym (c .before .before .before .before .before .line-at .ensures)) ∙ tags-some (setOf (c .before .before .before .before .before .line-at .result .now)) (c .before .before .before .before .hex-set .ensures) (c .before .before .set .given .1) in
+    let s : hexSetOf (lineAt t (l .at)) ≡ some (c .before .before .set .given .0 .0) = ap hexSetOf (sym (c .before .before .before .before .before .line-at .ensures)) ∙ tags-some (hexSetOf (c .before .before .before .before .before .line-at .result .now)) (c .before .before .before .before .hex-set .ensures) (c .before .before .set .given .1) in
     let n = g .count in
     let z = sym (g .count) in
     rw (z, g .kept) (ap grouped (sym (groups-full (g .gs) (h .is) (c .before .before .set .given .0 .0) s (omega arith)) ∙ g .says))
@@ -89,7 +87,7 @@ loop-again c =
     let t = c .before .before .before .before .before .before .before .before .before .before .before .args .text .now in
     let h = line-here t (l .at) (c .before .before .before .before .before .before .before .line-end .result) (c .before .before .before .before .before .before .before .line-end .ensures) (omega arith) (c .before .before .before .before .before .before .if1 .left) in
     let g = l .inv .2 in
-    let s : setOf (lineAt t (l .at)) ≡ some (c .before .before .set .given .0 .0) = ap setOf (sym (c .before .before .before .before .before .line-at .ensures)) ∙ tags-some (setOf (c .before .before .before .before .before .line-at .result .now)) (c .before .before .before .before .hex-set .ensures) (c .before .before .set .given .1) in
+    let s : hexSetOf (lineAt t (l .at)) ≡ some (c .before .before .set .given .0 .0) = ap hexSetOf (sym (c .before .before .before .before .before .line-at .ensures)) ∙ tags-some (hexSetOf (c .before .before .before .before .before .line-at .result .now)) (c .before .before .before .before .hex-set .ensures) (c .before .before .set .given .1) in
     let n = g .count in
     let v = c .before .before .set .given .0 .0 in (
       omega arith,

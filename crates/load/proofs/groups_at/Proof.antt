@@ -1,4 +1,4 @@
-use mathlib.Core.Path.{_≡_, ap, _∙_}
+use mathlib.Core.Path.{ap, _∙_}
 use native.Mathlib.Omega.{arith}
 use Rattle.load.specs.Blocks.{start, pastEmpty, groupsAt}
 use Rattle.load.proofs.groups_at.Statement.{statement}

@@ -1,6 +1,6 @@
-use mathlib.Core.Path.{_≡_, refl, sym, ap, _∙_}
+use mathlib.Core.Path.{ap, _∙_}
 use mathlib.Core.List.{[]}
-use Prim.Native.Nat.{ℕ, _≤_}
+use Prim.Native.Nat.{ℕ}
 use lib.ListN.{drop}
 use Rattle.text.specs.Lines.{linesOf, nextLine}
 use Rattle.load.specs.declared.Place.{Place}

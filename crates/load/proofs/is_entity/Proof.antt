@@ -1,5 +1,5 @@
 use mathlib.Core.Path.{sym}
-use Rattle.text.specs.Lines.{fieldsOf}
+use Rattle.text.specs.Lines.{fieldsIn}
 use Rattle.rows.specs.Entities.{entityOf}
 use Rattle.load.proofs.Laws.{entity-some, entity-none}
 use borrow.Author.Needs.{needs}
@@ -15,10 +15,10 @@ enum-told : tie.Need-enum-told
 enum-told c = search needs
 
 returns : tie.Need-returns
-returns c = sym (entity-some (c .before .before .before .entity-row .result) _ _ (entityOf (fieldsOf (c .before .before .before .before .before .before .args .header .now)) (fieldsOf (c .before .before .before .before .before .before .args .row .now))) (c .before .before .before .entity-row .ensures) (c .before .placed .given .1))
+returns c = sym (entity-some (c .before .before .before .entity-row .result) _ _ (entityOf (fieldsIn (c .before .before .before .before .before .before .args .header .now)) (fieldsIn (c .before .before .before .before .before .before .args .row .now))) (c .before .before .before .entity-row .ensures) (c .before .placed .given .1))
 
 returns-2 : tie.Need-returns-2
-returns-2 c = sym (entity-none (c .before .before .entity-row .result) (entityOf (fieldsOf (c .before .before .before .before .before .args .header .now)) (fieldsOf (c .before .before .before .before .before .args .row .now))) (c .before .before .entity-row .ensures) (c .enum-told .given .1))
+returns-2 c = sym (entity-none (c .before .before .entity-row .result) (entityOf (fieldsIn (c .before .before .before .before .before .args .header .now)) (fieldsIn (c .before .before .before .before .before .args .row .now))) (c .before .before .entity-row .ensures) (c .enum-told .given .1))
 
 pub is-entity-spec : {M : Type 1} → statement M
 is-entity-spec =

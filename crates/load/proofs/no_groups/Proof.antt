@@ -1,4 +1,3 @@
-use mathlib.Core.Path.{refl}
 use Rattle.load.specs.Tables.{noGroups}
 use Rattle.load.proofs.no_groups.Statement.{statement}
 use Rattle.load.proofs.no_groups.Tie as tie

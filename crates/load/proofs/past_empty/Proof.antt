@@ -1,9 +1,9 @@
-use Prim.Native.Nat.{ℕ, _+_, _-_, _≤_, _<_}
-use mathlib.Core.Path.{_≡_, refl, sym, ap, ap₂, _∙_}
+use Prim.Native.Nat.{ℕ, _+_, _-_, _≤_}
+use mathlib.Core.Path.{_≡_, refl, ap₂}
 use native.Mathlib.Omega.{arith}
 use lib.ListN.{length, drop}
-use Rattle.text.specs.Lines.{linesOf, lineAt}
-use Rattle.text.proofs.Laws.{Over, Line, line-ends, line-here}
+use Rattle.text.specs.Lines.{linesOf}
+use Rattle.text.proofs.Laws.{line-ends, line-here}
 use Rattle.load.specs.declared.Place.{Place}
 use Rattle.load.specs.Blocks.{pastEmpty, bytesPast, linesPast}
 use Rattle.load.proofs.Laws.{length-line, past-over, past-empty, past-step}

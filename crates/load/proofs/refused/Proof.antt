@@ -1,4 +1,3 @@
-use mathlib.Core.Path.{refl}
 use Rattle.load.specs.Load.{refusedBy}
 use Rattle.load.proofs.refused.Statement.{statement}
 use Rattle.load.proofs.refused.Tie as tie

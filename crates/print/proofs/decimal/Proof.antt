@@ -1,8 +1,8 @@
-use Prim.Native.Nat.{ℕ, _+_, _-_, _*_, _/_, _%_, _^_, _≤_, _<_}
-use mathlib.Core.Path.{_≡_, refl, sym, ap, _∙_}
-use mathlib.Core.List.{List, _∷_}
+use Prim.Native.Nat.{ℕ, _+_, _-_, _/_, _%_, _^_, _≤_, _<_}
+use mathlib.Core.Path.{_≡_, sym, ap, _∙_}
+use mathlib.Core.List.{_∷_}
 use native.Mathlib.Omega.{arith}
-use lib.ListN.{length, drop, set, drop-of-length-le, length-set}
+use lib.ListN.{length, drop, drop-of-length-le, length-set}
 use Rattle.print.specs.Lines.{decimalOnto, decimalText}
 use Rattle.print.proofs.Laws.{decimal-last, decimal-more, digits-two, digits-less, drop-here}
 use borrow.Author.Needs.{needs}

@@ -1,8 +1,7 @@
-use mathlib.Core.Path.{_≡_, refl, sym, ap, _∙_}
-use mathlib.Core.Bool.{Bool, true, false}
-use Prim.Native.Nat.{ℕ, _+_, _*_, _≤_, _-_, _/_}
+use mathlib.Core.Path.{sym}
+use Prim.Native.Nat.{_+_, _*_, _-_, _/_}
 use native.Mathlib.Omega.{arith}
-use lib.Dec.{eqb, leb}
+use lib.Dec.{leb}
 use borrow.Author.Tests.{eq-eqb, ne-eqb, lt-leb, le-leb, leb-true}
 use Rattle.rules.proofs.Facts.{iff}
 use Rattle.print.proofs.fits.Statement.{statement}

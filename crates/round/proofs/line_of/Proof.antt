@@ -1,6 +1,6 @@
-use mathlib.Core.Path.{_≡_, ap, ap₂, _∙_}
+use mathlib.Core.Path.{_≡_, ap₂, _∙_}
 use mathlib.Core.List.{List}
-use Prim.Native.Nat.{ℕ, _≤_}
+use Prim.Native.Nat.{ℕ}
 use native.Mathlib.Omega.{arith}
 use lib.ListN.{length, take, length-take}
 use Rattle.print.specs.Lines.{callLine, printed, printedLength}
@@ -30,8 +30,8 @@ returns c =
     let e : length (a .t1) ≡ 16 = search needs in
     let b : length (a .t2) ≡ 64 = search needs in
     line-is (a .t1) s e (omega (arith, length-take (a .n) (a .t2), b)) _ _
-    (w .call-line .ensures .0 ∙ ap₂ (λ (l out : List ℕ). printed (callLine (a .t1) l) out) (f .front .ensures) (n .no-line .ensures))
-    (w .call-line .ensures .1 ∙ ap₂ (λ (l out : List ℕ). printedLength (callLine (a .t1) l) out) (f .front .ensures) (n .no-line .ensures))
+    (w .call-line .ensures .0 ∙ ap₂ (λ (l out : List ℕ). printed (callLine (a .t1) l) out) (f .front .ensures .0) (n .blank-line .ensures))
+    (w .call-line .ensures .1 ∙ ap₂ (λ (l out : List ℕ). printedLength (callLine (a .t1) l) out) (f .front .ensures .0) (n .blank-line .ensures))
 
 pub line-of-spec : {M : Type 1} → statement M
 line-of-spec =

@@ -1,4 +1,4 @@
-use mathlib.Core.Path.{_≡_, ap, _∙_}
+use mathlib.Core.Path.{ap, _∙_}
 use denote.Ref.{now}
 use Rattle.round.specs.Played.{played}
 use Rattle.round.specs.Round.{stepWith}

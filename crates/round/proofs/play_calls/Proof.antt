@@ -1,4 +1,4 @@
-use Prim.Native.Nat.{ℕ, _-_, _%_, _<_}
+use Prim.Native.Nat.{ℕ, _-_, _%_}
 use mathlib.Core.Path.{_≡_, refl, sym, ap, ap₂, _∙_}
 use mathlib.Core.List.{List}
 use native.Mathlib.Omega.{arith}
@@ -8,14 +8,13 @@ use Rattle.rules.specs.Record.{filled}
 use Rattle.monitor.specs.declared.Table.{Table}
 use Rattle.text.specs.Lines.{nextLine}
 use Rattle.round.specs.declared.Step.{Step}
-use Rattle.round.specs.Round.{stepOf, playFrom, playAll, recordBy}
+use Rattle.round.specs.Round.{playFrom, playAll, recordBy}
 use Rattle.round.proofs.Round.{step-later}
 use Rattle.round.proofs.Listing.{Listed, listed-start, listed-same, listed-more, listed-end, listed-as}
-use borrow.Author.Needs.{needs}
 use Rattle.round.proofs.play_calls.Statement.{statement}
 use Rattle.round.proofs.play_calls.Tie as tie
 
--- `round::play_calls` meets its contract. The loop's invariant: the records of the lines passed are listed. Assumes nothing.
+-- `round::play_calls` meets its contract. The loop's invariant: the records of the lines passed are recordsWithin. Assumes nothing.
 
 abbrev Inv-loop : tie.InvT-loop
 Inv-loop text out₀ names table₀ n₀ at₀ out table n at = Listed text names (playFrom recordBy text names (length text) at₀ table₀) out₀ out table n at

@@ -1,4 +1,3 @@
-use mathlib.Core.Path.{refl}
 use Rattle.round.specs.Played.{unplayed}
 use Rattle.round.proofs.unplayed.Statement.{statement}
 use Rattle.round.proofs.unplayed.Tie as tie

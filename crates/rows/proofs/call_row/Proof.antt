@@ -1,9 +1,9 @@
-use mathlib.Core.Path.{_≡_, refl, sym, ap, ap₂, _∙_}
+use mathlib.Core.Path.{_≡_, sym, ap, ap₂, _∙_}
 use borrow.Author.Tests.{eq-eqb, ne-eqb}
 use Rattle.text.specs.Bytes.{decimalOf}
-use Rattle.text.specs.Answers.{room}
-use Rattle.rows.specs.Calls.{callOf, callFrom, formOf, numberIf, dataIf, usesData}
-use Rattle.rows.proofs.Laws.{named-some, named-none, number-some, number-none, data-some, data-none, put-bytes}
+use Rattle.rows.specs.Calls.{callOf, callFrom, callNamed, numberIf, dataIf, usesData}
+use Rattle.rows.proofs.Laws.{named-some, named-none, number-some, number-none, data-some, data-none}
+use Rattle.rows.specs.declared.CallRead.the-variants as CallRead
 use borrow.Author.Needs.{needs}
 use Rattle.rows.proofs.call_row.Statement.{statement}
 use Rattle.rows.proofs.call_row.Tie as tie
@@ -28,7 +28,7 @@ unfolding callOf callFrom
 returns-2 c =
     c .no-call2 .ensures ∙ rw (
       eq-eqb _ _ (sym (c .before .before .before .before .before .before .before .count .ensures) ∙ c .before .before .before .before .before .before .if1 .left),
-      ap formOf (sym (c .before .before .before .before .value .ensures)) ∙ named-none _ (c .before .before .before .form-of .ensures) (c .before .enum-told .given .1),
+      ap callNamed (sym (c .before .before .before .before .value .ensures)) ∙ named-none _ (c .before .before .before .call-named .ensures) (c .before .enum-told .given .1),
     )
 
 slice-aggregate-value-2 : tie.Need-slice-aggregate-value-2
@@ -45,7 +45,7 @@ unfolding callOf callFrom
 returns-3 c =
     c .no-call3 .ensures ∙ rw (
       eq-eqb _ _ (sym (c .before .before .before .before .before .before .before .before .before .before .before .before .before .count .ensures) ∙ c .before .before .before .before .before .before .before .before .before .before .before .before .if1 .left),
-      ap formOf (sym (c .before .before .before .before .before .before .before .before .before .before .value .ensures)) ∙ named-some _ (c .before .before .before .before .before .before .before .before .before .form-of .ensures) (c .before .before .before .before .before .before .before .k .given .1),
+      ap callNamed (sym (c .before .before .before .before .before .before .before .before .before .before .value .ensures)) ∙ named-some _ (c .before .before .before .before .before .before .before .before .before .call-named .ensures) (c .before .before .before .before .before .before .before .k .given .1),
       ap (decimalOf 255) (sym (c .before .before .before .before .value2 .ensures)) ∙ number-none _ (c .before .before .before .decimal .ensures) (c .before .enum-told2 .given .1),
     )
 
@@ -63,7 +63,7 @@ unfolding callOf callFrom
 returns-4 c =
     c .no-call4 .ensures ∙ rw (
       eq-eqb _ _ (sym (c .before .before .before .before .before .before .before .before .before .before .before .before .before .before .before .before .before .before .before .before .count .ensures) ∙ c .before .before .before .before .before .before .before .before .before .before .before .before .before .before .before .before .before .before .before .if1 .left),
-      ap formOf (sym (c .before .before .before .before .before .before .before .before .before .before .before .before .before .before .before .before .before .value .ensures)) ∙ named-some _ (c .before .before .before .before .before .before .before .before .before .before .before .before .before .before .before .before .form-of .ensures) (c .before .before .before .before .before .before .before .before .before .before .before .before .before .before .k .given .1),
+      ap callNamed (sym (c .before .before .before .before .before .before .before .before .before .before .before .before .before .before .before .before .before .value .ensures)) ∙ named-some _ (c .before .before .before .before .before .before .before .before .before .before .before .before .before .before .before .before .call-named .ensures) (c .before .before .before .before .before .before .before .before .before .before .before .before .before .before .k .given .1),
       ap (decimalOf 255) (sym (c .before .before .before .before .before .before .before .before .before .before .before .value2 .ensures)) ∙ number-some _ (c .before .before .before .before .before .before .before .before .before .before .decimal .ensures) (c .before .before .before .before .before .before .before .before .i .given .1),
       ap₂ numberIf (sym (c .before .before .before .before .before .before .uses-other .ensures)) (sym (c .before .before .before .before .value3 .ensures)) ∙ number-none _ (c .before .before .before .number-if .ensures) (c .before .enum-told3 .given .1),
     )
@@ -82,7 +82,7 @@ unfolding callOf callFrom
 returns-5 c =
     c .no-call5 .ensures ∙ rw (
       eq-eqb _ _ (sym (c .before .before .before .before .before .before .before .before .before .before .before .before .before .before .before .before .before .before .before .before .before .before .before .before .before .before .before .count .ensures) ∙ c .before .before .before .before .before .before .before .before .before .before .before .before .before .before .before .before .before .before .before .before .before .before .before .before .before .before .if1 .left),
-      ap formOf (sym (c .before .before .before .before .before .before .before .before .before .before .before .before .before .before .before .before .before .before .before .before .before .before .before .before .value .ensures)) ∙ named-some _ (c .before .before .before .before .before .before .before .before .before .before .before .before .before .before .before .before .before .before .before .before .before .before .before .form-of .ensures) (c .before .before .before .before .before .before .before .before .before .before .before .before .before .before .before .before .before .before .before .before .before .k .given .1),
+      ap callNamed (sym (c .before .before .before .before .before .before .before .before .before .before .before .before .before .before .before .before .before .before .before .before .before .before .before .before .value .ensures)) ∙ named-some _ (c .before .before .before .before .before .before .before .before .before .before .before .before .before .before .before .before .before .before .before .before .before .before .before .call-named .ensures) (c .before .before .before .before .before .before .before .before .before .before .before .before .before .before .before .before .before .before .before .before .before .k .given .1),
       ap (decimalOf 255) (sym (c .before .before .before .before .before .before .before .before .before .before .before .before .before .before .before .before .before .before .value2 .ensures)) ∙ number-some _ (c .before .before .before .before .before .before .before .before .before .before .before .before .before .before .before .before .before .decimal .ensures) (c .before .before .before .before .before .before .before .before .before .before .before .before .before .before .before .i .given .1),
       ap₂ numberIf (sym (c .before .before .before .before .before .before .before .before .before .before .before .before .before .uses-other .ensures)) (sym (c .before .before .before .before .before .before .before .before .before .before .before .value3 .ensures)) ∙ number-some _ (c .before .before .before .before .before .before .before .before .before .before .number-if .ensures) (c .before .before .before .before .before .before .before .before .j .given .1),
       ap₂ numberIf (sym (c .before .before .before .before .before .before .uses-set .ensures)) (sym (c .before .before .before .before .value4 .ensures)) ∙ number-none _ (c .before .before .before .number-if2 .ensures) (c .before .enum-told4 .given .1),
@@ -102,7 +102,7 @@ unfolding callOf callFrom
 returns-6 c =
     c .no-call6 .ensures ∙ rw (
       eq-eqb _ _ (sym (c .before .before .before .before .before .before .before .before .before .before .before .before .before .before .before .before .before .before .before .before .before .before .before .before .before .before .before .before .before .before .before .before .before .before .count .ensures) ∙ c .before .before .before .before .before .before .before .before .before .before .before .before .before .before .before .before .before .before .before .before .before .before .before .before .before .before .before .before .before .before .before .before .before .if1 .left),
-      ap formOf (sym (c .before .before .before .before .before .before .before .before .before .before .before .before .before .before .before .before .before .before .before .before .before .before .before .before .before .before .before .before .before .before .before .value .ensures)) ∙ named-some _ (c .before .before .before .before .before .before .before .before .before .before .before .before .before .before .before .before .before .before .before .before .before .before .before .before .before .before .before .before .before .before .form-of .ensures) (c .before .before .before .before .before .before .before .before .before .before .before .before .before .before .before .before .before .before .before .before .before .before .before .before .before .before .before .before .k .given .1),
+      ap callNamed (sym (c .before .before .before .before .before .before .before .before .before .before .before .before .before .before .before .before .before .before .before .before .before .before .before .before .before .before .before .before .before .before .before .value .ensures)) ∙ named-some _ (c .before .before .before .before .before .before .before .before .before .before .before .before .before .before .before .before .before .before .before .before .before .before .before .before .before .before .before .before .before .before .call-named .ensures) (c .before .before .before .before .before .before .before .before .before .before .before .before .before .before .before .before .before .before .before .before .before .before .before .before .before .before .before .before .k .given .1),
       ap (decimalOf 255) (sym (c .before .before .before .before .before .before .before .before .before .before .before .before .before .before .before .before .before .before .before .before .before .before .before .before .before .value2 .ensures)) ∙ number-some _ (c .before .before .before .before .before .before .before .before .before .before .before .before .before .before .before .before .before .before .before .before .before .before .before .before .decimal .ensures) (c .before .before .before .before .before .before .before .before .before .before .before .before .before .before .before .before .before .before .before .before .before .before .i .given .1),
       ap₂ numberIf (sym (c .before .before .before .before .before .before .before .before .before .before .before .before .before .before .before .before .before .before .before .before .uses-other .ensures)) (sym (c .before .before .before .before .before .before .before .before .before .before .before .before .before .before .before .before .before .before .value3 .ensures)) ∙ number-some _ (c .before .before .before .before .before .before .before .before .before .before .before .before .before .before .before .before .before .number-if .ensures) (c .before .before .before .before .before .before .before .before .before .before .before .before .before .before .before .j .given .1),
       ap₂ numberIf (sym (c .before .before .before .before .before .before .before .before .before .before .before .before .before .uses-set .ensures)) (sym (c .before .before .before .before .before .before .before .before .before .before .before .value4 .ensures)) ∙ number-some _ (c .before .before .before .before .before .before .before .before .before .before .number-if2 .ensures) (c .before .before .before .before .before .before .before .before .n .given .1),
@@ -123,7 +123,7 @@ unfolding callOf callFrom
 returns-7 c =
     c .no-call7 .ensures ∙ rw (
       eq-eqb _ _ (sym (c .before .before .before .before .before .before .before .before .before .before .before .before .before .before .before .before .before .before .before .before .before .before .before .before .before .before .before .before .before .before .before .before .before .before .before .before .before .before .before .before .before .before .count .ensures) ∙ c .before .before .before .before .before .before .before .before .before .before .before .before .before .before .before .before .before .before .before .before .before .before .before .before .before .before .before .before .before .before .before .before .before .before .before .before .before .before .before .before .before .if1 .left),
-      ap formOf (sym (c .before .before .before .before .before .before .before .before .before .before .before .before .before .before .before .before .before .before .before .before .before .before .before .before .before .before .before .before .before .before .before .before .before .before .before .before .before .before .before .value .ensures)) ∙ named-some _ (c .before .before .before .before .before .before .before .before .before .before .before .before .before .before .before .before .before .before .before .before .before .before .before .before .before .before .before .before .before .before .before .before .before .before .before .before .before .before .form-of .ensures) (c .before .before .before .before .before .before .before .before .before .before .before .before .before .before .before .before .before .before .before .before .before .before .before .before .before .before .before .before .before .before .before .before .before .before .before .before .k .given .1),
+      ap callNamed (sym (c .before .before .before .before .before .before .before .before .before .before .before .before .before .before .before .before .before .before .before .before .before .before .before .before .before .before .before .before .before .before .before .before .before .before .before .before .before .before .before .value .ensures)) ∙ named-some _ (c .before .before .before .before .before .before .before .before .before .before .before .before .before .before .before .before .before .before .before .before .before .before .before .before .before .before .before .before .before .before .before .before .before .before .before .before .before .before .call-named .ensures) (c .before .before .before .before .before .before .before .before .before .before .before .before .before .before .before .before .before .before .before .before .before .before .before .before .before .before .before .before .before .before .before .before .before .before .before .before .k .given .1),
       ap (decimalOf 255) (sym (c .before .before .before .before .before .before .before .before .before .before .before .before .before .before .before .before .before .before .before .before .before .before .before .before .before .before .before .before .before .before .before .before .before .value2 .ensures)) ∙ number-some _ (c .before .before .before .before .before .before .before .before .before .before .before .before .before .before .before .before .before .before .before .before .before .before .before .before .before .before .before .before .before .before .before .before .decimal .ensures) (c .before .before .before .before .before .before .before .before .before .before .before .before .before .before .before .before .before .before .before .before .before .before .before .before .before .before .before .before .before .before .i .given .1),
       ap₂ numberIf (sym (c .before .before .before .before .before .before .before .before .before .before .before .before .before .before .before .before .before .before .before .before .before .before .before .before .before .before .before .before .uses-other .ensures)) (sym (c .before .before .before .before .before .before .before .before .before .before .before .before .before .before .before .before .before .before .before .before .before .before .before .before .before .before .value3 .ensures)) ∙ number-some _ (c .before .before .before .before .before .before .before .before .before .before .before .before .before .before .before .before .before .before .before .before .before .before .before .before .before .number-if .ensures) (c .before .before .before .before .before .before .before .before .before .before .before .before .before .before .before .before .before .before .before .before .before .before .before .j .given .1),
       ap₂ numberIf (sym (c .before .before .before .before .before .before .before .before .before .before .before .before .before .before .before .before .before .before .before .before .before .uses-set .ensures)) (sym (c .before .before .before .before .before .before .before .before .before .before .before .before .before .before .before .before .before .before .before .value4 .ensures)) ∙ number-some _ (c .before .before .before .before .before .before .before .before .before .before .before .before .before .before .before .before .before .before .number-if2 .ensures) (c .before .before .before .before .before .before .before .before .before .before .before .before .before .before .before .before .n .given .1),
@@ -138,15 +138,13 @@ returns-8 c =
     let e : dataIf (usesData (c .before .before .before .before .before .before .before .before .before .before .before .before .before .before .before .before .before .before .before .before .before .before .before .before .before .before .before .before .before .before .before .before .before .before .before .before .before .k .given .0 .0)) _ ≡ _ = ap₂ dataIf (sym (c .before .before .before .before .before .before .before .before .uses-data .ensures)) (sym (c .before .before .before .before .before .before .value6 .ensures)) ∙ d .is in
     rw (
       eq-eqb _ _ (sym (c .before .before .before .before .before .before .before .before .before .before .before .before .before .before .before .before .before .before .before .before .before .before .before .before .before .before .before .before .before .before .before .before .before .before .before .before .before .before .before .before .before .before .before .count .ensures) ∙ c .before .before .before .before .before .before .before .before .before .before .before .before .before .before .before .before .before .before .before .before .before .before .before .before .before .before .before .before .before .before .before .before .before .before .before .before .before .before .before .before .before .before .if1 .left),
-      ap formOf (sym (c .before .before .before .before .before .before .before .before .before .before .before .before .before .before .before .before .before .before .before .before .before .before .before .before .before .before .before .before .before .before .before .before .before .before .before .before .before .before .before .before .value .ensures)) ∙ named-some _ (c .before .before .before .before .before .before .before .before .before .before .before .before .before .before .before .before .before .before .before .before .before .before .before .before .before .before .before .before .before .before .before .before .before .before .before .before .before .before .before .form-of .ensures) (c .before .before .before .before .before .before .before .before .before .before .before .before .before .before .before .before .before .before .before .before .before .before .before .before .before .before .before .before .before .before .before .before .before .before .before .before .before .k .given .1),
+      ap callNamed (sym (c .before .before .before .before .before .before .before .before .before .before .before .before .before .before .before .before .before .before .before .before .before .before .before .before .before .before .before .before .before .before .before .before .before .before .before .before .before .before .before .before .value .ensures)) ∙ named-some _ (c .before .before .before .before .before .before .before .before .before .before .before .before .before .before .before .before .before .before .before .before .before .before .before .before .before .before .before .before .before .before .before .before .before .before .before .before .before .before .before .call-named .ensures) (c .before .before .before .before .before .before .before .before .before .before .before .before .before .before .before .before .before .before .before .before .before .before .before .before .before .before .before .before .before .before .before .before .before .before .before .before .before .k .given .1),
       ap (decimalOf 255) (sym (c .before .before .before .before .before .before .before .before .before .before .before .before .before .before .before .before .before .before .before .before .before .before .before .before .before .before .before .before .before .before .before .before .before .before .value2 .ensures)) ∙ number-some _ (c .before .before .before .before .before .before .before .before .before .before .before .before .before .before .before .before .before .before .before .before .before .before .before .before .before .before .before .before .before .before .before .before .before .decimal .ensures) (c .before .before .before .before .before .before .before .before .before .before .before .before .before .before .before .before .before .before .before .before .before .before .before .before .before .before .before .before .before .before .before .i .given .1),
       ap₂ numberIf (sym (c .before .before .before .before .before .before .before .before .before .before .before .before .before .before .before .before .before .before .before .before .before .before .before .before .before .before .before .before .before .uses-other .ensures)) (sym (c .before .before .before .before .before .before .before .before .before .before .before .before .before .before .before .before .before .before .before .before .before .before .before .before .before .before .before .value3 .ensures)) ∙ number-some _ (c .before .before .before .before .before .before .before .before .before .before .before .before .before .before .before .before .before .before .before .before .before .before .before .before .before .before .number-if .ensures) (c .before .before .before .before .before .before .before .before .before .before .before .before .before .before .before .before .before .before .before .before .before .before .before .before .j .given .1),
       ap₂ numberIf (sym (c .before .before .before .before .before .before .before .before .before .before .before .before .before .before .before .before .before .before .before .before .before .before .uses-set .ensures)) (sym (c .before .before .before .before .before .before .before .before .before .before .before .before .before .before .before .before .before .before .before .before .value4 .ensures)) ∙ number-some _ (c .before .before .before .before .before .before .before .before .before .before .before .before .before .before .before .before .before .before .before .number-if2 .ensures) (c .before .before .before .before .before .before .before .before .before .before .before .before .before .before .before .before .before .n .given .1),
       ap₂ numberIf (sym (c .before .before .before .before .before .before .before .before .before .before .before .before .before .before .before .uses-tag .ensures)) (sym (c .before .before .before .before .before .before .before .before .before .before .before .before .before .value5 .ensures)) ∙ number-some _ (c .before .before .before .before .before .before .before .before .before .before .before .before .number-if3 .ensures) (c .before .before .before .before .before .before .before .before .before .before .p .given .1),
       e,
-      put-bytes (c .before .before .before .before .before .before .before .before .before .before .before .before .before .before .before .before .before .before .before .before .before .before .before .before .before .before .before .before .before .before .before .before .before .before .before .before .before .k .given .0 .0) _ (d .bs) (c .before .before .before .before .before .before .before .before .before .before .before .before .before .before .before .before .before .before .before .before .before .before .before .before .before .before .before .before .before .before .before .i .given .0 .0) (c .before .before .before .before .before .before .before .before .before .before .before .before .before .before .before .before .before .before .before .before .before .before .before .before .j .given .0 .0) (c .before .before .before .before .before .before .before .before .before .before .before .before .before .before .before .before .before .n .given .0 .0) (c .before .before .before .before .before .before .before .before .before .before .p .given .0 .0) e,
-      ← d .kept,
-    ) (ap (λ x. record { asked = x; bytes = c .before .before .before .before .before .data-if .result .bytes }) (c .asked-as .ensures (d .bs) (sym (d .count))))
+    ) (λ z. record { read = CallRead.Call (c .call-as .ensures z); len = d .count z; bytes = d .kept z })
 
 pub call-row-spec : {M : Type 1} → statement M
 call-row-spec =

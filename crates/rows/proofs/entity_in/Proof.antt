@@ -1,6 +1,5 @@
-use mathlib.Core.Path.{refl}
-use Rattle.text.specs.Bytes.{setOf}
-use Rattle.text.specs.Lines.{fieldsOf, under}
+use Rattle.text.specs.Bytes.{hexSetOf}
+use Rattle.text.specs.Lines.{fieldsIn, under}
 use Rattle.rows.specs.Names.{secName, intName, saName, sdName, iaName, idName}
 use Rattle.rows.specs.Entities.{entityIn}
 use Rattle.rows.proofs.Laws.{tags-some, tags-none}
@@ -22,9 +21,9 @@ enum-told c = search needs
 returns : tie.Need-returns
 unfolding entityIn
 returns c =
-    let hs = fieldsOf (c .before .before .before .before .before .before .args .header .now) in
-    let fs = fieldsOf (c .before .before .before .before .before .before .args .row .now) in
-    rw (tags-none (setOf (under secName hs fs)) (c .before .before .set-under .ensures) (c .enum-told .given .1))
+    let hs = fieldsIn (c .before .before .before .before .before .before .args .header .now) in
+    let fs = fieldsIn (c .before .before .before .before .before .before .args .row .now) in
+    rw (tags-none (hexSetOf (under secName hs fs)) (c .before .before .set-under .ensures) (c .enum-told .given .1))
 
 slice-aggregate-set-under-2 : tie.Need-slice-aggregate-set-under-2
 slice-aggregate-set-under-2 c = search needs
@@ -38,11 +37,11 @@ enum-told-2 c = search needs
 returns-2 : tie.Need-returns-2
 unfolding entityIn
 returns-2 c =
-    let hs = fieldsOf (c .before .before .before .before .before .before .before .before .before .before .before .args .header .now) in
-    let fs = fieldsOf (c .before .before .before .before .before .before .before .before .before .before .before .args .row .now) in
+    let hs = fieldsIn (c .before .before .before .before .before .before .before .before .before .before .before .args .header .now) in
+    let fs = fieldsIn (c .before .before .before .before .before .before .before .before .before .before .before .args .row .now) in
     rw (
-      tags-some (setOf (under secName hs fs)) (c .before .before .before .before .before .before .before .set-under .ensures) (c .before .before .before .before .before .sec .given .1),
-      tags-none (setOf (under intName hs fs)) (c .before .before .set-under2 .ensures) (c .enum-told2 .given .1),
+      tags-some (hexSetOf (under secName hs fs)) (c .before .before .before .before .before .before .before .set-under .ensures) (c .before .before .before .before .before .sec .given .1),
+      tags-none (hexSetOf (under intName hs fs)) (c .before .before .set-under2 .ensures) (c .enum-told2 .given .1),
     )
 
 slice-aggregate-set-under-3 : tie.Need-slice-aggregate-set-under-3
@@ -57,12 +56,12 @@ enum-told-3 c = search needs
 returns-3 : tie.Need-returns-3
 unfolding entityIn
 returns-3 c =
-    let hs = fieldsOf (c .before .before .before .before .before .before .before .before .before .before .before .before .before .before .before .before .args .header .now) in
-    let fs = fieldsOf (c .before .before .before .before .before .before .before .before .before .before .before .before .before .before .before .before .args .row .now) in
+    let hs = fieldsIn (c .before .before .before .before .before .before .before .before .before .before .before .before .before .before .before .before .args .header .now) in
+    let fs = fieldsIn (c .before .before .before .before .before .before .before .before .before .before .before .before .before .before .before .before .args .row .now) in
     rw (
-      tags-some (setOf (under secName hs fs)) (c .before .before .before .before .before .before .before .before .before .before .before .before .set-under .ensures) (c .before .before .before .before .before .before .before .before .before .before .sec .given .1),
-      tags-some (setOf (under intName hs fs)) (c .before .before .before .before .before .before .before .set-under2 .ensures) (c .before .before .before .before .before .int .given .1),
-      tags-none (setOf (under saName hs fs)) (c .before .before .set-under3 .ensures) (c .enum-told3 .given .1),
+      tags-some (hexSetOf (under secName hs fs)) (c .before .before .before .before .before .before .before .before .before .before .before .before .set-under .ensures) (c .before .before .before .before .before .before .before .before .before .before .sec .given .1),
+      tags-some (hexSetOf (under intName hs fs)) (c .before .before .before .before .before .before .before .set-under2 .ensures) (c .before .before .before .before .before .int .given .1),
+      tags-none (hexSetOf (under saName hs fs)) (c .before .before .set-under3 .ensures) (c .enum-told3 .given .1),
     )
 
 slice-aggregate-set-under-4 : tie.Need-slice-aggregate-set-under-4
@@ -77,13 +76,13 @@ enum-told-4 c = search needs
 returns-4 : tie.Need-returns-4
 unfolding entityIn
 returns-4 c =
-    let hs = fieldsOf (c .before .before .before .before .before .before .before .before .before .before .before .before .before .before .before .before .before .before .before .before .before .args .header .now) in
-    let fs = fieldsOf (c .before .before .before .before .before .before .before .before .before .before .before .before .before .before .before .before .before .before .before .before .before .args .row .now) in
+    let hs = fieldsIn (c .before .before .before .before .before .before .before .before .before .before .before .before .before .before .before .before .before .before .before .before .before .args .header .now) in
+    let fs = fieldsIn (c .before .before .before .before .before .before .before .before .before .before .before .before .before .before .before .before .before .before .before .before .before .args .row .now) in
     rw (
-      tags-some (setOf (under secName hs fs)) (c .before .before .before .before .before .before .before .before .before .before .before .before .before .before .before .before .before .set-under .ensures) (c .before .before .before .before .before .before .before .before .before .before .before .before .before .before .before .sec .given .1),
-      tags-some (setOf (under intName hs fs)) (c .before .before .before .before .before .before .before .before .before .before .before .before .set-under2 .ensures) (c .before .before .before .before .before .before .before .before .before .before .int .given .1),
-      tags-some (setOf (under saName hs fs)) (c .before .before .before .before .before .before .before .set-under3 .ensures) (c .before .before .before .before .before .sa .given .1),
-      tags-none (setOf (under sdName hs fs)) (c .before .before .set-under4 .ensures) (c .enum-told4 .given .1),
+      tags-some (hexSetOf (under secName hs fs)) (c .before .before .before .before .before .before .before .before .before .before .before .before .before .before .before .before .before .set-under .ensures) (c .before .before .before .before .before .before .before .before .before .before .before .before .before .before .before .sec .given .1),
+      tags-some (hexSetOf (under intName hs fs)) (c .before .before .before .before .before .before .before .before .before .before .before .before .set-under2 .ensures) (c .before .before .before .before .before .before .before .before .before .before .int .given .1),
+      tags-some (hexSetOf (under saName hs fs)) (c .before .before .before .before .before .before .before .set-under3 .ensures) (c .before .before .before .before .before .sa .given .1),
+      tags-none (hexSetOf (under sdName hs fs)) (c .before .before .set-under4 .ensures) (c .enum-told4 .given .1),
     )
 
 slice-aggregate-set-under-5 : tie.Need-slice-aggregate-set-under-5
@@ -98,14 +97,14 @@ enum-told-5 c = search needs
 returns-5 : tie.Need-returns-5
 unfolding entityIn
 returns-5 c =
-    let hs = fieldsOf (c .before .before .before .before .before .before .before .before .before .before .before .before .before .before .before .before .before .before .before .before .before .before .before .before .before .before .args .header .now) in
-    let fs = fieldsOf (c .before .before .before .before .before .before .before .before .before .before .before .before .before .before .before .before .before .before .before .before .before .before .before .before .before .before .args .row .now) in
+    let hs = fieldsIn (c .before .before .before .before .before .before .before .before .before .before .before .before .before .before .before .before .before .before .before .before .before .before .before .before .before .before .args .header .now) in
+    let fs = fieldsIn (c .before .before .before .before .before .before .before .before .before .before .before .before .before .before .before .before .before .before .before .before .before .before .before .before .before .before .args .row .now) in
     rw (
-      tags-some (setOf (under secName hs fs)) (c .before .before .before .before .before .before .before .before .before .before .before .before .before .before .before .before .before .before .before .before .before .before .set-under .ensures) (c .before .before .before .before .before .before .before .before .before .before .before .before .before .before .before .before .before .before .before .before .sec .given .1),
-      tags-some (setOf (under intName hs fs)) (c .before .before .before .before .before .before .before .before .before .before .before .before .before .before .before .before .before .set-under2 .ensures) (c .before .before .before .before .before .before .before .before .before .before .before .before .before .before .before .int .given .1),
-      tags-some (setOf (under saName hs fs)) (c .before .before .before .before .before .before .before .before .before .before .before .before .set-under3 .ensures) (c .before .before .before .before .before .before .before .before .before .before .sa .given .1),
-      tags-some (setOf (under sdName hs fs)) (c .before .before .before .before .before .before .before .set-under4 .ensures) (c .before .before .before .before .before .sd .given .1),
-      tags-none (setOf (under iaName hs fs)) (c .before .before .set-under5 .ensures) (c .enum-told5 .given .1),
+      tags-some (hexSetOf (under secName hs fs)) (c .before .before .before .before .before .before .before .before .before .before .before .before .before .before .before .before .before .before .before .before .before .before .set-under .ensures) (c .before .before .before .before .before .before .before .before .before .before .before .before .before .before .before .before .before .before .before .before .sec .given .1),
+      tags-some (hexSetOf (under intName hs fs)) (c .before .before .before .before .before .before .before .before .before .before .before .before .before .before .before .before .before .set-under2 .ensures) (c .before .before .before .before .before .before .before .before .before .before .before .before .before .before .before .int .given .1),
+      tags-some (hexSetOf (under saName hs fs)) (c .before .before .before .before .before .before .before .before .before .before .before .before .set-under3 .ensures) (c .before .before .before .before .before .before .before .before .before .before .sa .given .1),
+      tags-some (hexSetOf (under sdName hs fs)) (c .before .before .before .before .before .before .before .set-under4 .ensures) (c .before .before .before .before .before .sd .given .1),
+      tags-none (hexSetOf (under iaName hs fs)) (c .before .before .set-under5 .ensures) (c .enum-told5 .given .1),
     )
 
 slice-aggregate-set-under-6 : tie.Need-slice-aggregate-set-under-6
@@ -120,29 +119,29 @@ enum-told-6 c = search needs
 returns-6 : tie.Need-returns-6
 unfolding entityIn
 returns-6 c =
-    let hs = fieldsOf (c .before .before .before .before .before .before .before .before .before .before .before .before .before .before .before .before .before .before .before .before .before .before .before .before .before .before .before .before .before .before .before .args .header .now) in
-    let fs = fieldsOf (c .before .before .before .before .before .before .before .before .before .before .before .before .before .before .before .before .before .before .before .before .before .before .before .before .before .before .before .before .before .before .before .args .row .now) in
+    let hs = fieldsIn (c .before .before .before .before .before .before .before .before .before .before .before .before .before .before .before .before .before .before .before .before .before .before .before .before .before .before .before .before .before .before .before .args .header .now) in
+    let fs = fieldsIn (c .before .before .before .before .before .before .before .before .before .before .before .before .before .before .before .before .before .before .before .before .before .before .before .before .before .before .before .before .before .before .before .args .row .now) in
     rw (
-      tags-some (setOf (under secName hs fs)) (c .before .before .before .before .before .before .before .before .before .before .before .before .before .before .before .before .before .before .before .before .before .before .before .before .before .before .before .set-under .ensures) (c .before .before .before .before .before .before .before .before .before .before .before .before .before .before .before .before .before .before .before .before .before .before .before .before .before .sec .given .1),
-      tags-some (setOf (under intName hs fs)) (c .before .before .before .before .before .before .before .before .before .before .before .before .before .before .before .before .before .before .before .before .before .before .set-under2 .ensures) (c .before .before .before .before .before .before .before .before .before .before .before .before .before .before .before .before .before .before .before .before .int .given .1),
-      tags-some (setOf (under saName hs fs)) (c .before .before .before .before .before .before .before .before .before .before .before .before .before .before .before .before .before .set-under3 .ensures) (c .before .before .before .before .before .before .before .before .before .before .before .before .before .before .before .sa .given .1),
-      tags-some (setOf (under sdName hs fs)) (c .before .before .before .before .before .before .before .before .before .before .before .before .set-under4 .ensures) (c .before .before .before .before .before .before .before .before .before .before .sd .given .1),
-      tags-some (setOf (under iaName hs fs)) (c .before .before .before .before .before .before .before .set-under5 .ensures) (c .before .before .before .before .before .ia .given .1),
-      tags-none (setOf (under idName hs fs)) (c .before .before .set-under6 .ensures) (c .enum-told6 .given .1),
+      tags-some (hexSetOf (under secName hs fs)) (c .before .before .before .before .before .before .before .before .before .before .before .before .before .before .before .before .before .before .before .before .before .before .before .before .before .before .before .set-under .ensures) (c .before .before .before .before .before .before .before .before .before .before .before .before .before .before .before .before .before .before .before .before .before .before .before .before .before .sec .given .1),
+      tags-some (hexSetOf (under intName hs fs)) (c .before .before .before .before .before .before .before .before .before .before .before .before .before .before .before .before .before .before .before .before .before .before .set-under2 .ensures) (c .before .before .before .before .before .before .before .before .before .before .before .before .before .before .before .before .before .before .before .before .int .given .1),
+      tags-some (hexSetOf (under saName hs fs)) (c .before .before .before .before .before .before .before .before .before .before .before .before .before .before .before .before .before .set-under3 .ensures) (c .before .before .before .before .before .before .before .before .before .before .before .before .before .before .before .sa .given .1),
+      tags-some (hexSetOf (under sdName hs fs)) (c .before .before .before .before .before .before .before .before .before .before .before .before .set-under4 .ensures) (c .before .before .before .before .before .before .before .before .before .before .sd .given .1),
+      tags-some (hexSetOf (under iaName hs fs)) (c .before .before .before .before .before .before .before .set-under5 .ensures) (c .before .before .before .before .before .ia .given .1),
+      tags-none (hexSetOf (under idName hs fs)) (c .before .before .set-under6 .ensures) (c .enum-told6 .given .1),
     )
 
 returns-7 : tie.Need-returns-7
 unfolding entityIn
 returns-7 c =
-    let hs = fieldsOf (c .before .before .before .before .before .before .before .before .before .before .before .before .before .before .before .before .before .before .before .before .before .before .before .before .before .before .before .before .before .before .before .before .args .header .now) in
-    let fs = fieldsOf (c .before .before .before .before .before .before .before .before .before .before .before .before .before .before .before .before .before .before .before .before .before .before .before .before .before .before .before .before .before .before .before .before .args .row .now) in
+    let hs = fieldsIn (c .before .before .before .before .before .before .before .before .before .before .before .before .before .before .before .before .before .before .before .before .before .before .before .before .before .before .before .before .before .before .before .before .args .header .now) in
+    let fs = fieldsIn (c .before .before .before .before .before .before .before .before .before .before .before .before .before .before .before .before .before .before .before .before .before .before .before .before .before .before .before .before .before .before .before .before .args .row .now) in
     rw (
-      tags-some (setOf (under secName hs fs)) (c .before .before .before .before .before .before .before .before .before .before .before .before .before .before .before .before .before .before .before .before .before .before .before .before .before .before .before .before .set-under .ensures) (c .before .before .before .before .before .before .before .before .before .before .before .before .before .before .before .before .before .before .before .before .before .before .before .before .before .before .sec .given .1),
-      tags-some (setOf (under intName hs fs)) (c .before .before .before .before .before .before .before .before .before .before .before .before .before .before .before .before .before .before .before .before .before .before .before .set-under2 .ensures) (c .before .before .before .before .before .before .before .before .before .before .before .before .before .before .before .before .before .before .before .before .before .int .given .1),
-      tags-some (setOf (under saName hs fs)) (c .before .before .before .before .before .before .before .before .before .before .before .before .before .before .before .before .before .before .set-under3 .ensures) (c .before .before .before .before .before .before .before .before .before .before .before .before .before .before .before .before .sa .given .1),
-      tags-some (setOf (under sdName hs fs)) (c .before .before .before .before .before .before .before .before .before .before .before .before .before .set-under4 .ensures) (c .before .before .before .before .before .before .before .before .before .before .before .sd .given .1),
-      tags-some (setOf (under iaName hs fs)) (c .before .before .before .before .before .before .before .before .set-under5 .ensures) (c .before .before .before .before .before .before .ia .given .1),
-      tags-some (setOf (under idName hs fs)) (c .before .before .before .set-under6 .ensures) (c .before .id .given .1),
+      tags-some (hexSetOf (under secName hs fs)) (c .before .before .before .before .before .before .before .before .before .before .before .before .before .before .before .before .before .before .before .before .before .before .before .before .before .before .before .before .set-under .ensures) (c .before .before .before .before .before .before .before .before .before .before .before .before .before .before .before .before .before .before .before .before .before .before .before .before .before .before .sec .given .1),
+      tags-some (hexSetOf (under intName hs fs)) (c .before .before .before .before .before .before .before .before .before .before .before .before .before .before .before .before .before .before .before .before .before .before .before .set-under2 .ensures) (c .before .before .before .before .before .before .before .before .before .before .before .before .before .before .before .before .before .before .before .before .before .int .given .1),
+      tags-some (hexSetOf (under saName hs fs)) (c .before .before .before .before .before .before .before .before .before .before .before .before .before .before .before .before .before .before .set-under3 .ensures) (c .before .before .before .before .before .before .before .before .before .before .before .before .before .before .before .before .sa .given .1),
+      tags-some (hexSetOf (under sdName hs fs)) (c .before .before .before .before .before .before .before .before .before .before .before .before .before .set-under4 .ensures) (c .before .before .before .before .before .before .before .before .before .before .before .sd .given .1),
+      tags-some (hexSetOf (under iaName hs fs)) (c .before .before .before .before .before .before .before .before .set-under5 .ensures) (c .before .before .before .before .before .before .ia .given .1),
+      tags-some (hexSetOf (under idName hs fs)) (c .before .before .before .set-under6 .ensures) (c .before .id .given .1),
     )
 
 pub entity-in-spec : {M : Type 1} → statement M

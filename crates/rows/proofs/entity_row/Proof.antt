@@ -1,17 +1,13 @@
-use mathlib.Core.Path.{_≡_, refl, sym, ap, ap₂, _∙_}
-use mathlib.Core.Bool.{true, false}
+use mathlib.Core.Path.{sym, ap, ap₂, _∙_}
 use mathlib.Core.List.{List}
-use mathlib.Core.Option.{some, none}
 use Prim.Native.Nat.{ℕ, _≤_}
 use native.Mathlib.Omega.{arith}
 use borrow.Author.Tests.{eq-eqb, ne-eqb, not-true, not-false}
 use lib.ListN.{length}
-use Rattle.entity.specs.Block.{padded}
+use Rattle.block.specs.Block.{padded}
 use Rattle.text.specs.Bytes.{decimalOf, dataOf}
-use Rattle.text.specs.Lines.{fieldsOf, under}
-use Rattle.rows.specs.Names.{kindName}
-use Rattle.rows.specs.Entities.{entityOf, entityIn, entryFrom, kindOf}
-use Rattle.rows.specs.declared.EntityRow.{EntityRow}
+use Rattle.text.specs.Lines.{fieldsIn}
+use Rattle.rows.specs.Entities.{entityOf, entityIn, entitySaidFrom, kindNamed}
 use Rattle.rows.specs.declared.Placed.the-variants as Placed
 use Rattle.rows.proofs.Laws.{number-some, number-none, data-some, data-none, found-some, found-none, formed-short, entity-len, room-block}
 use borrow.Author.Needs.{needs}
@@ -76,34 +72,34 @@ returns-4 c =
       eq-eqb _ _ (sym (c .before .before .before .before .before .before .before .before .before .before .before .before .before .before .before .before .before .before .before .before .count .ensures) ∙ c .before .before .before .before .before .before .before .before .before .before .before .before .before .before .before .before .before .before .before .if1 .left),
       ap (decimalOf 31) (sym (c .before .before .before .before .before .before .before .before .before .before .before .before .before .before .before .before .before .value .ensures)) ∙ number-some _ (c .before .before .before .before .before .before .before .before .before .before .before .before .before .before .before .before .decimal .ensures) (c .before .before .before .before .before .before .before .before .before .before .before .before .before .before .slot .given .1),
       ap (dataOf 64) (sym (c .before .before .before .before .before .before .before .before .before .before .before .value2 .ensures)) ∙ d .is,
-      ap₂ (entityIn (fieldsOf (c .before .before .before .before .before .before .before .before .before .before .before .before .before .before .before .before .before .before .before .before .before .before .before .args .header .now)) (fieldsOf (c .before .before .before .before .before .before .before .before .before .before .before .before .before .before .before .before .before .before .before .before .before .before .before .args .row .now))) (sym (c .before .before .before .before .kind-of .ensures ∙ ap kindOf (c .before .before .before .before .before .value3 .ensures))) (sym (d .count)) ∙ found-none _ (c .before .before .before .entity-in .ensures) (c .before .enum-told3 .given .1),
+      ap₂ (entityIn (fieldsIn (c .before .before .before .before .before .before .before .before .before .before .before .before .before .before .before .before .before .before .before .before .before .before .before .args .header .now)) (fieldsIn (c .before .before .before .before .before .before .before .before .before .before .before .before .before .before .before .before .before .before .before .before .before .before .before .args .row .now))) (sym (c .before .before .before .before .kind-of .ensures ∙ ap kindNamed (c .before .before .before .before .before .value3 .ensures))) (sym (d .count)) ∙ found-none _ (c .before .before .before .entity-in .ensures) (c .before .enum-told3 .given .1),
     )
 
 returns-5 : tie.Need-returns-5
-unfolding entityOf entryFrom
+unfolding entityOf entitySaidFrom
 returns-5 c =
     let d = data-some (c .before .before .before .before .before .before .before .before .before .before .before .before .before .data-field .result) (c .before .before .before .before .before .before .before .before .before .before .before .size .given .0 .0) (dataOf 64 (c .before .before .before .before .before .before .before .before .before .before .before .before .before .before .value2 .result .now)) (c .before .before .before .before .before .before .before .before .before .before .before .before .before .data-field .ensures) (c .before .before .before .before .before .before .before .before .before .before .before .size .given .1) in
     c .no-entity5 .ensures ∙ rw (
       eq-eqb _ _ (sym (c .before .before .before .before .before .before .before .before .before .before .before .before .before .before .before .before .before .before .before .before .before .before .before .count .ensures) ∙ c .before .before .before .before .before .before .before .before .before .before .before .before .before .before .before .before .before .before .before .before .before .before .if1 .left),
       ap (decimalOf 31) (sym (c .before .before .before .before .before .before .before .before .before .before .before .before .before .before .before .before .before .before .before .before .value .ensures)) ∙ number-some _ (c .before .before .before .before .before .before .before .before .before .before .before .before .before .before .before .before .before .before .before .decimal .ensures) (c .before .before .before .before .before .before .before .before .before .before .before .before .before .before .before .before .before .slot .given .1),
       ap (dataOf 64) (sym (c .before .before .before .before .before .before .before .before .before .before .before .before .before .before .value2 .ensures)) ∙ d .is,
-      ap₂ (entityIn (fieldsOf (c .before .before .before .before .before .before .before .before .before .before .before .before .before .before .before .before .before .before .before .before .before .before .before .before .before .before .args .header .now)) (fieldsOf (c .before .before .before .before .before .before .before .before .before .before .before .before .before .before .before .before .before .before .before .before .before .before .before .before .before .before .args .row .now))) (sym (c .before .before .before .before .before .before .before .kind-of .ensures ∙ ap kindOf (c .before .before .before .before .before .before .before .before .value3 .ensures))) (sym (d .count)) ∙ found-some _ (c .before .before .before .before .before .before .entity-in .ensures) (c .before .before .before .before .e .given .1),
+      ap₂ (entityIn (fieldsIn (c .before .before .before .before .before .before .before .before .before .before .before .before .before .before .before .before .before .before .before .before .before .before .before .before .before .before .args .header .now)) (fieldsIn (c .before .before .before .before .before .before .before .before .before .before .before .before .before .before .before .before .before .before .before .before .before .before .before .before .before .before .args .row .now))) (sym (c .before .before .before .before .before .before .before .kind-of .ensures ∙ ap kindNamed (c .before .before .before .before .before .before .before .before .value3 .ensures))) (sym (d .count)) ∙ found-some _ (c .before .before .before .before .before .before .entity-in .ensures) (c .before .before .before .before .e .given .1),
       sym (c .before .before .is-formed .ensures) ∙ not-true _ (c .before .if2 .taken),
     )
 
 returns-6 : tie.Need-returns-6
-unfolding entityOf entryFrom
+unfolding entityOf entitySaidFrom
 returns-6 c =
     let d = data-some (c .before .before .before .before .before .before .before .before .before .before .before .before .before .data-field .result) (c .before .before .before .before .before .before .before .before .before .before .before .size .given .0 .0) (dataOf 64 (c .before .before .before .before .before .before .before .before .before .before .before .before .before .before .value2 .result .now)) (c .before .before .before .before .before .before .before .before .before .before .before .before .before .data-field .ensures) (c .before .before .before .before .before .before .before .before .before .before .before .size .given .1) in
     let x = c .before .before .before .before .e .given .0 .0 in
-    let q = found-some (entityIn (fieldsOf (c .before .before .before .before .before .before .before .before .before .before .before .before .before .before .before .before .before .before .before .before .before .before .before .before .before .before .args .header .now)) (fieldsOf (c .before .before .before .before .before .before .before .before .before .before .before .before .before .before .before .before .before .before .before .before .before .before .before .before .before .before .args .row .now)) (c .before .before .before .before .before .before .before .kind-of .result) (c .before .before .before .before .before .before .before .before .before .before .before .size .given .0 .0)) (c .before .before .before .before .before .before .entity-in .ensures) (c .before .before .before .before .e .given .1) in
+    let q = found-some (entityIn (fieldsIn (c .before .before .before .before .before .before .before .before .before .before .before .before .before .before .before .before .before .before .before .before .before .before .before .before .before .before .args .header .now)) (fieldsIn (c .before .before .before .before .before .before .before .before .before .before .before .before .before .before .before .before .before .before .before .before .before .before .before .before .before .before .args .row .now)) (c .before .before .before .before .before .before .before .kind-of .result) (c .before .before .before .before .before .before .before .before .before .before .before .size .given .0 .0)) (c .before .before .before .before .before .before .entity-in .ensures) (c .before .before .before .before .e .given .1) in
     let f = sym (c .before .before .is-formed .ensures) ∙ not-false _ (c .before .if2 .left) in
-    let h : length (d .bs) ≤ 64 = omega (arith, formed-short x f, entity-len (fieldsOf (c .before .before .before .before .before .before .before .before .before .before .before .before .before .before .before .before .before .before .before .before .before .before .before .before .before .before .args .header .now)) (fieldsOf (c .before .before .before .before .before .before .before .before .before .before .before .before .before .before .before .before .before .before .before .before .before .before .before .before .before .before .args .row .now)) (c .before .before .before .before .before .before .before .kind-of .result) (c .before .before .before .before .before .before .before .before .before .before .before .size .given .0 .0) x q, d .count) in
+    let h : length (d .bs) ≤ 64 = omega (arith, formed-short x f, entity-len (fieldsIn (c .before .before .before .before .before .before .before .before .before .before .before .before .before .before .before .before .before .before .before .before .before .before .before .before .before .before .args .header .now)) (fieldsIn (c .before .before .before .before .before .before .before .before .before .before .before .before .before .before .before .before .before .before .before .before .before .before .before .before .before .before .args .row .now)) (c .before .before .before .before .before .before .before .kind-of .result) (c .before .before .before .before .before .before .before .before .before .before .before .size .given .0 .0) x q, d .count) in
     rw (
       eq-eqb _ _ (sym (c .before .before .before .before .before .before .before .before .before .before .before .before .before .before .before .before .before .before .before .before .before .before .before .count .ensures) ∙ c .before .before .before .before .before .before .before .before .before .before .before .before .before .before .before .before .before .before .before .before .before .before .if1 .left),
       ap (decimalOf 31) (sym (c .before .before .before .before .before .before .before .before .before .before .before .before .before .before .before .before .before .before .before .before .value .ensures)) ∙ number-some _ (c .before .before .before .before .before .before .before .before .before .before .before .before .before .before .before .before .before .before .before .decimal .ensures) (c .before .before .before .before .before .before .before .before .before .before .before .before .before .before .before .before .before .slot .given .1),
       ap (dataOf 64) (sym (c .before .before .before .before .before .before .before .before .before .before .before .before .before .before .value2 .ensures)) ∙ d .is,
-      ap₂ (entityIn (fieldsOf (c .before .before .before .before .before .before .before .before .before .before .before .before .before .before .before .before .before .before .before .before .before .before .before .before .before .before .args .header .now)) (fieldsOf (c .before .before .before .before .before .before .before .before .before .before .before .before .before .before .before .before .before .before .before .before .before .before .before .before .before .before .args .row .now))) (sym (c .before .before .before .before .before .before .before .kind-of .ensures ∙ ap kindOf (c .before .before .before .before .before .before .before .before .value3 .ensures))) (sym (d .count)) ∙ q,
+      ap₂ (entityIn (fieldsIn (c .before .before .before .before .before .before .before .before .before .before .before .before .before .before .before .before .before .before .before .before .before .before .before .before .before .before .args .header .now)) (fieldsIn (c .before .before .before .before .before .before .before .before .before .before .before .before .before .before .before .before .before .before .before .before .before .before .before .before .before .before .args .row .now))) (sym (c .before .before .before .before .before .before .before .kind-of .ensures ∙ ap kindNamed (c .before .before .before .before .before .before .before .before .value3 .ensures))) (sym (d .count)) ∙ q,
       f,
     ) (ap (λ (b : List ℕ). record { placed = Placed.At (c .before .before .before .before .before .before .before .before .before .before .before .before .before .before .before .before .before .slot .given .0 .0) x; block = b }) (c .block-of .ensures ∙ ap padded (d .kept) ∙ room-block (d .bs) h))
 

@@ -1,5 +1,4 @@
-use mathlib.Core.Path.{refl, _∙_}
-use Rattle.text.specs.Lines.{fieldsOf, ahead}
+use Rattle.text.specs.Lines.{fieldsIn, ahead}
 use borrow.Author.Needs.{needs}
 use Rattle.rows.proofs.is_call_header.Statement.{statement}
 use Rattle.rows.proofs.is_call_header.Tie as tie
@@ -10,7 +9,7 @@ slice-aggregate-is-header : tie.Need-slice-aggregate-is-header
 slice-aggregate-is-header c = search needs
 
 returns : tie.Need-returns
-unfolding fieldsOf ahead
+unfolding fieldsIn ahead
 returns c = c .is-header .ensures
 
 pub is-call-header-spec : {M : Type 1} → statement M

@@ -1,4 +1,3 @@
-use mathlib.Core.Path.{refl}
 use Rattle.rows.specs.Entities.{entityFormed}
 use Rattle.rows.proofs.is_formed.Statement.{statement}
 use Rattle.rows.proofs.is_formed.Tie as tie

@@ -1,5 +1,5 @@
-use mathlib.Core.Path.{refl, sym, _∙_}
-use Rattle.rows.specs.Entities.{kindOf}
+use mathlib.Core.Path.{sym, _∙_}
+use Rattle.rows.specs.Entities.{kindNamed}
 use borrow.Author.Needs.{needs}
 use Rattle.rows.proofs.kind_of.Statement.{statement}
 use Rattle.rows.proofs.kind_of.Tie as tie
@@ -10,18 +10,18 @@ slice-aggregate-same : tie.Need-slice-aggregate-same
 slice-aggregate-same c = search needs
 
 returns : tie.Need-returns
-unfolding kindOf
+unfolding kindNamed
 returns c = rw (sym (c .before .same .ensures) ∙ c .if1 .taken)
 
 slice-aggregate-same-2 : tie.Need-slice-aggregate-same-2
 slice-aggregate-same-2 c = search needs
 
 returns-2 : tie.Need-returns-2
-unfolding kindOf
+unfolding kindNamed
 returns-2 c = rw (sym (c .before .before .before .before .same .ensures) ∙ c .before .before .before .if1 .left, sym (c .before .same2 .ensures) ∙ c .if2 .taken)
 
 returns-3 : tie.Need-returns-3
-unfolding kindOf
+unfolding kindNamed
 returns-3 c = rw (sym (c .before .before .before .before .same .ensures) ∙ c .before .before .before .if1 .left, sym (c .before .same2 .ensures) ∙ c .if2 .left)
 
 pub kind-of-spec : {M : Type 1} → statement M

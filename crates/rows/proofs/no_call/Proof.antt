@@ -1,4 +1,3 @@
-use mathlib.Core.Path.{refl}
 use Rattle.rows.proofs.no_call.Statement.{statement}
 use Rattle.rows.proofs.no_call.Tie as tie
 

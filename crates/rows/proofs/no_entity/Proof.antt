@@ -1,11 +1,10 @@
-use mathlib.Core.Path.{refl}
 use Rattle.rows.proofs.no_entity.Statement.{statement}
 use Rattle.rows.proofs.no_entity.Tie as tie
 
 -- `rows::no_entity` meets its contract. Assumes nothing.
 
 returns : tie.Need-returns
-returns c = rw (c .no-block .ensures)
+returns c = rw (c .empty .ensures)
 
 pub no-entity-spec : {M : Type 1} → statement M
 no-entity-spec =

@@ -1,4 +1,4 @@
-use mathlib.Core.Path.{refl, sym, _∙_}
+use mathlib.Core.Path.{sym, _∙_}
 use Rattle.rows.specs.Calls.{numberIf}
 use borrow.Author.Needs.{needs}
 use Rattle.rows.proofs.number_if.Statement.{statement}

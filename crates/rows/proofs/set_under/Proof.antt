@@ -1,4 +1,4 @@
-use mathlib.Core.Path.{refl, _∙_}
+use mathlib.Core.Path.{_∙_}
 use Rattle.rows.proofs.set_under.Statement.{statement}
 use Rattle.rows.proofs.set_under.Tie as tie
 

@@ -1,10 +1,10 @@
 use borrow.Author.Needs.{needs}
-use Prim.Native.Nat.{_+_, _*_, _≤_, _<_, _-_, _^_}
-use mathlib.Core.Path.{_≡_, refl, sym, _∙_}
+use Prim.Native.Nat.{_+_, _≤_, _-_}
+use mathlib.Core.Path.{_≡_, refl}
 use mathlib.Core.Logic.{⊎-elim}
-use lib.ListN.{length, take, drop}
+use lib.ListN.{length, drop}
 use native.Mathlib.Omega.{arith}
-use Rattle.text.specs.Lines.{fieldsOf}
+use Rattle.text.specs.Lines.{fieldsIn}
 use Rattle.text.proofs.Laws.{count-end, count-space, count-other}
 use Rattle.text.proofs.count.Statement.{statement}
 use Rattle.text.proofs.count.Tie as tie
@@ -12,7 +12,7 @@ use Rattle.text.proofs.count.Tie as tie
 -- `text::count` meets its contract. Assumes nothing.
 
 abbrev Inv-loop : tie.InvT-loop
-Inv-loop row n₀ i₀ n i = (i ≤ length row) × (n ≤ i + 1) × (n + length (fieldsOf (drop i row)) ≡ 1 + length (fieldsOf row))
+Inv-loop row n₀ i₀ n i = (i ≤ length row) × (n ≤ i + 1) × (n + length (fieldsIn (drop i row)) ≡ 1 + length (fieldsIn row))
 
 abbrev μ-loop : tie.MeasureT-loop
 μ-loop row n₀ i₀ n i = length row - i

@@ -1,6 +1,5 @@
 use borrow.Author.Needs.{needs}
-use mathlib.Core.Path.{_≡_, refl, sym, ap, _∙_}
-use native.Mathlib.Omega.{arith}
+use mathlib.Core.Path.{sym, ap, _∙_}
 use Rattle.text.specs.Answers.{asNumber}
 use Rattle.text.proofs.Laws.{dec-none, dec-zeros, dec-one, dec-more}
 use Rattle.text.proofs.decimal.Statement.{statement}

@@ -1,4 +1,3 @@
-use mathlib.Core.Path.{refl}
 use Rattle.text.proofs.Laws.{room-none}
 use Rattle.text.proofs.empty_data.Statement.{statement}
 use Rattle.text.proofs.empty_data.Tie as tie

@@ -1,10 +1,10 @@
 use borrow.Author.Needs.{needs}
-use Prim.Native.Nat.{_+_, _*_, _≤_, _<_, _-_, _^_}
+use Prim.Native.Nat.{_+_, _≤_, _-_}
 use mathlib.Core.Path.{_≡_, refl, sym, _∙_}
-use lib.ListN.{length, take, drop}
+use lib.ListN.{length}
 use lib.Seq.{length-take-le}
 use native.Mathlib.Omega.{arith}
-use Rattle.text.specs.Lines.{fieldsOf, hasName}
+use Rattle.text.specs.Lines.{fieldsIn, hasName}
 use Rattle.text.proofs.Laws.{has-hit, has-last, has-next, rest, index-le}
 use Rattle.text.proofs.has.Statement.{statement}
 use Rattle.text.proofs.has.Tie as tie
@@ -12,7 +12,7 @@ use Rattle.text.proofs.has.Tie as tie
 -- `text::has` meets its contract. Assumes nothing.
 
 abbrev Inv-loop : tie.InvT-loop
-Inv-loop header name h₀ h = (length h ≤ length header) × (hasName name (fieldsOf h) ≡ hasName name (fieldsOf header))
+Inv-loop header name h₀ h = (length h ≤ length header) × (hasName name (fieldsIn h) ≡ hasName name (fieldsIn header))
 
 abbrev μ-loop : tie.MeasureT-loop
 μ-loop header name h₀ h = length h

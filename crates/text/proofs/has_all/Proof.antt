@@ -1,10 +1,10 @@
 use Prim.Native.Nat.{_≤_, _-_, _+_}
-use mathlib.Core.Path.{_≡_, refl, sym, ap, _∙_}
+use mathlib.Core.Path.{_≡_, refl, sym, _∙_}
 use native.Mathlib.Omega.{arith}
-use lib.ListN.{length, drop}
+use lib.ListN.{length}
 use lib.Seq.{length-take-le}
 use borrow.Author.Tests.{not-true, not-false}
-use Rattle.text.specs.Lines.{fieldsOf, hasNames}
+use Rattle.text.specs.Lines.{fieldsIn, hasNames}
 use Rattle.text.proofs.Laws.{all-miss, all-last, all-next, rest, index-le}
 use borrow.Author.Needs.{needs}
 use Rattle.text.proofs.has_all.Statement.{statement}
@@ -13,7 +13,7 @@ use Rattle.text.proofs.has_all.Tie as tie
 -- `text::has_all` meets its contract. The loop's invariant: the names that are left are all there where all are. Assumes nothing.
 
 abbrev Inv-loop : tie.InvT-loop
-Inv-loop header names n₀ n = (length n ≤ length names) × (hasNames (fieldsOf n) (fieldsOf header) ≡ hasNames (fieldsOf names) (fieldsOf header))
+Inv-loop header names n₀ n = (length n ≤ length names) × (hasNames (fieldsIn n) (fieldsIn header) ≡ hasNames (fieldsIn names) (fieldsIn header))
 
 abbrev μ-loop : tie.MeasureT-loop
 μ-loop header names n₀ n = length n

@@ -1,6 +1,5 @@
 use borrow.Author.Needs.{needs}
-use mathlib.Core.Path.{_≡_, refl, sym, ap, _∙_}
-use native.Mathlib.Omega.{arith}
+use mathlib.Core.Path.{sym, ap, _∙_}
 use Rattle.text.specs.Answers.{asTags}
 use Rattle.text.proofs.Laws.{set-none, set-long, set-whole}
 use Rattle.text.proofs.hex_set.Statement.{statement}

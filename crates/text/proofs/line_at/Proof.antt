@@ -1,6 +1,6 @@
-use mathlib.Core.Path.{_≡_, sym, _∙_}
+use mathlib.Core.Path.{sym}
 use native.Mathlib.Omega.{arith}
-use Rattle.text.proofs.Laws.{LineEnd, line-ends, line-part, line-none}
+use Rattle.text.proofs.Laws.{line-ends, line-part, line-none}
 use borrow.Author.Needs.{needs}
 use Rattle.text.proofs.line_at.Statement.{statement}
 use Rattle.text.proofs.line_at.Tie as tie

@@ -1,4 +1,4 @@
-use mathlib.Core.Path.{_≡_, sym}
+use mathlib.Core.Path.{sym}
 use Prim.Native.Nat.{_<_, _≤_}
 use lib.ListN.{length}
 use Rattle.text.specs.Lines.{lineEnd}

@@ -1,4 +1,3 @@
-use mathlib.Core.Path.{refl}
 use Rattle.text.proofs.no_data.Statement.{statement}
 use Rattle.text.proofs.no_data.Tie as tie
 

@@ -2,7 +2,7 @@ use Prim.Native.Nat.{_≤_, _-_, _*_, _+_}
 use mathlib.Core.Path.{_≡_, refl, sym, ap, _∙_}
 use mathlib.Core.List.{[], _∷_, _++_}
 use native.Mathlib.Omega.{arith}
-use lib.ListN.{length, drop, length-append, length-set}
+use lib.ListN.{length, length-append, length-set}
 use Rattle.text.specs.Answers.{asData}
 use Rattle.text.proofs.Laws.{pairs-end, pairs-odd, pairs-first, pairs-second, pairs-full, pairs-step, room-none, room-more, length-room, Paired}
 use borrow.Author.Needs.{needs}

@@ -1,10 +1,10 @@
 use borrow.Author.Needs.{needs}
-use Prim.Native.Nat.{_+_, _*_, _≤_, _<_, _-_, _^_}
+use Prim.Native.Nat.{_+_, _≤_, _-_}
 use mathlib.Core.Path.{_≡_, refl, sym, _∙_}
-use lib.ListN.{length, take, drop}
+use lib.ListN.{length}
 use native.Mathlib.Omega.{arith}
 use lib.Seq.{length-take-le}
-use Rattle.text.specs.Lines.{fieldsOf, under}
+use Rattle.text.specs.Lines.{fieldsIn, under}
 use Rattle.text.proofs.Laws.{under-hit, under-last, under-short, under-next, rest, index-le}
 use Rattle.text.proofs.value.Statement.{statement}
 use Rattle.text.proofs.value.Tie as tie
@@ -12,7 +12,7 @@ use Rattle.text.proofs.value.Tie as tie
 -- `text::value` meets its contract. The loop's invariant: the field of what is left is the field. Assumes nothing.
 
 abbrev Inv-loop : tie.InvT-loop
-Inv-loop header row name h₀ f₀ h f = (length h ≤ length header) × (length f ≤ length row) × (under name (fieldsOf h) (fieldsOf f) ≡ under name (fieldsOf header) (fieldsOf row))
+Inv-loop header row name h₀ f₀ h f = (length h ≤ length header) × (length f ≤ length row) × (under name (fieldsIn h) (fieldsIn f) ≡ under name (fieldsIn header) (fieldsIn row))
 
 abbrev μ-loop : tie.MeasureT-loop
 μ-loop header row name h₀ f₀ h f = length h

@@ -1,7 +1,11 @@
-use mathlib.Core.Path.{_≡_, refl}
+use mathlib.Core.Path.{_≡_, refl, sym, ap}
 use mathlib.Core.Bool.{Bool, true, false, _&&_}
+use lib.Dec.{leb}
 use borrow.Author.Needs.{needs}
+use Rattle.rules.specs.Table.{rightless}
 use Rattle.label.specs.Tags.{isEmpty}
+use Rattle.label.specs.Words.{words}
+use Rattle.entity.specs.Entity.{rightsOf}
 use Rattle.entity.proofs.Entity.is_formed.Statement.{statement}
 use Rattle.entity.proofs.Entity.is_formed.Tie as tie
 
@@ -30,7 +34,10 @@ returns c =
     simp (c5 .enum-told .given .1, c1 .no-rights .ensures, c2 .is-empty2 .ensures, c3 .is-empty .ensures)
 
 returns-2 : tie.Need-returns-2
-returns-2 c = simp (c .before .before .enum-told2 .given .1, c .no-rights2 .ensures)
+returns-2 c =
+    let self = c .before .before .before .before .args .self in
+    simp (c .before .before .enum-told2 .given .1, c .no-rights2 .ensures)
+    (ap (λ (b : Bool). leb (self .len) 64 && b) (sym (and-true (rightless {A = words} (rightsOf self)))))
 
 returns-3 : tie.Need-returns-3
 returns-3 c = simp (c .before .enum-told3 .given .1, and-true)

@@ -8,9 +8,9 @@ returns c =
     let c1 = c .before in
     let c2 = c1 .before in
     simp (
-      c .label-if3 .ensures,
-      c1 .label-if2 .ensures,
-      c2 .label-if .ensures,
+      c .choose3 .ensures,
+      c1 .choose2 .ensures,
+      c2 .choose .ensures,
     )
 
 pub right-at-spec : {M : Type 1} → statement M

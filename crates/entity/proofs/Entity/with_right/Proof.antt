@@ -13,13 +13,13 @@ returns c =
     let c6 = c5 .before in
     let c7 = c6 .before in
     simp (
-      c .label-if4 .ensures,
+      c .choose4 .ensures,
       c1 .with-tag4 .ensures,
-      c2 .label-if3 .ensures,
+      c2 .choose3 .ensures,
       c3 .with-tag3 .ensures,
-      c4 .label-if2 .ensures,
+      c4 .choose2 .ensures,
       c5 .with-tag2 .ensures,
-      c6 .label-if .ensures,
+      c6 .choose .ensures,
       c7 .with-tag .ensures,
     )
 

@@ -9,9 +9,9 @@ returns c =
     let c2 = c1 .before in
     let c3 = c2 .before in
     simp (
-      c .label-if2 .ensures,
+      c .choose2 .ensures,
       c1 .without-tag2 .ensures,
-      c2 .label-if .ensures,
+      c2 .choose .ensures,
       c3 .without-tag .ensures,
     )
 

@@ -1,0 +1,4 @@
+pub mod Record
+pub mod Reader
+pub mod Shown
+pub mod Append
