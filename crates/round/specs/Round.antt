@@ -8,9 +8,10 @@ use lib.Dec.{ltb}
 use lib.ListN.{length, take, drop, replicate}
 use Rattle.rules.specs.Calls.{Call}
 use Rattle.rules.specs.Refusals.{step}
-use Rattle.rules.specs.Record.{recordSize, answer}
+use Rattle.rules.specs.Record.{answer}
 use Rattle.rules.specs.Runs.{final, trace, records}
 use Rattle.label.specs.Words.{words}
+use Rattle.records.specs.Shown.{wholeRoom}
 use Rattle.monitor.specs.declared.Table.{Table}
 use Rattle.monitor.specs.Table.{hub}
 use Rattle.text.specs.Lines.{nextLine}
@@ -73,7 +74,7 @@ roundOf text = playAll lineBy text (loadOf text .table) .0
 
 -- the records of all calls from a table on that have room in `room` bytes, each as a whole
 abbrev pub recordsWithin : List ℕ → Table → ℕ → List ℕ
-recordsWithin text t room = take (room - room % recordSize words) (playAll recordBy text t .0)
+recordsWithin text t room = take (wholeRoom room) (playAll recordBy text t .0)
 
 abbrev pub endedOf : List ℕ → Table → ℕ → Ended
 endedOf text t room = record { table = playAll recordBy text t .1; len = length (recordsWithin text t room) }
