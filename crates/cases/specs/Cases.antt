@@ -1,4 +1,4 @@
--- Document 01, cases P1 to P14: a table, a call on it, the number returned and the bytes moved. And its watering round.
+-- Document 01, cases P1 to P14: a table, a call on it, the number returned and the bytes moved. And a call for each refusal.
 -- Assumes nothing.
 use mathlib.Core.Path.{_≡_}
 use mathlib.Core.Bool.{Bool, true, cond}
@@ -7,11 +7,12 @@ use Prim.Native.Nat.{ℕ, _^_}
 use lib.Dec.{eqb}
 use lib.ListN.{getD, replicate}
 use Rattle.rules.specs.declared.Kind.the-variants.{Item, Program}
-use Rattle.rules.specs.Table.{Slot, Plain, plain, noRights, free, accepted}
-use Rattle.rules.specs.Calls.{Call, put, show, send, fetch, addTag, dropTag, hand}
-use Rattle.rules.specs.Refusals.{step}
+use Rattle.rules.specs.Table.{Slot, Plain, plain, free, accepted}
+use Rattle.rules.specs.Calls.{Call, put, show, send, addTag, dropTag, create, release, hand}
+use Rattle.rules.specs.Refusals.{numberOf, verdict}
 use Rattle.rules.specs.Record.{answer}
-use Rattle.rules.specs.Runs.{trace}
+use Rattle.rules.specs.Claims.{listed}
+use Rattle.rules.specs.ByNumber.{passing}
 use Rattle.label.specs.declared.Label.{Label}
 use Rattle.label.specs.Tags.{labelOf, empty}
 use Rattle.label.specs.Words.{words}
@@ -82,40 +83,29 @@ stated k = record { accepted = true; number = k .number; count = k .count }
 abbrev pub CasesHold : Type 0
 CasesHold = map given cases ≡ map stated cases
 
--- ---- 'A watering round through hubcalls': its table, its calls, the records it prints and the bytes that show shows
+-- ---- each refusal of a call occurs: for every number that is listed, in order, a table and a call that it turns down
 
-abbrev item : List ℕ → Slot words
-item bs = record { kind = Item; sec = empty; int = empty; rights = noRights; content = bs }
+abbrev two : Slot words → Plain words
+two b = hub [] (program empty empty (labelOf 1) empty three) b
 
-abbrev pub roundTable : Plain words
-roundTable = record {
-  slots = λ i.
-      cond (eqb i 0) (labelled (labelOf 1) empty (0xa1 ∷ 0xb2 ∷ []))
-      (cond (eqb i 1) (program empty empty (labelOf 1) empty [])
-      (cond (eqb i 2) (item (7 ∷ [])) free));
-  groups = labelOf 3 ∷ [];
-}
+abbrev item : Label → Slot words
+item sa = record { kind = Item; sec = empty; int = empty; rights = record { sa = sa; sd = empty; ia = empty; id = empty }; content = [] }
 
-abbrev pub roundCalls : List (Call words)
-roundCalls = fetch 1 0 ∷ addTag 1 0 0 ∷ fetch 1 0 ∷ show 1 (replicate 64 0) ∷ send 1 2 ∷ dropTag 1 0 0 ∷ []
-
--- a record of the round: kind, other, number, bytes moved, tag, set field; the caller is 1 and the need {0}
-abbrev line : ℕ → ℕ → ℕ → ℕ → ℕ → ℕ → List ℕ
-line k o n m t s = k ∷ 1 ∷ o ∷ n ∷ m ∷ t ∷ s ∷ 0 ∷ 1 ∷ 0 ∷ 0 ∷ 0 ∷ 0 ∷ 0 ∷ 0 ∷ 0 ∷ []
-
-abbrev pub roundRecords : List (List ℕ)
-roundRecords =
-    line 4 0 7 0 0xff 0xff
-    ∷ line 5 0xff 0 0 0 0
-    ∷ line 4 0 0 2 0xff 0xff
-    ∷ line 2 0xff 0 2 0xff 0xff
-    ∷ line 3 2 7 0 0xff 0xff
-    ∷ line 6 0xff 0xa 0 0 0
+abbrev pub turnedDown : List (Plain words × Call words)
+turnedDown =
+    (two free, put 1 three)
+    ∷ (two free, send 0 32)
+    ∷ (two free, send 0 1)
+    ∷ (two (item empty), create 0 1 1)
+    ∷ (two free, put 0 (replicate 65 7))
+    ∷ (two free, show 0 (replicate 2 0))
+    ∷ (two (labelled empty (labelOf 4) []), send 0 1)
+    ∷ (two (labelled empty empty []), release 0 1)
+    ∷ (two (item empty), hand 0 1 0 0)
+    ∷ (two free, addTag 0 0 1)
+    ∷ (hub (labelOf 3 ∷ []) (program empty empty (labelOf 1) empty three) (labelled (labelOf 2) empty []), hand 0 1 0 0)
+    ∷ (two (item (labelOf 1)), put 0 three)
     ∷ []
 
-abbrev pub roundShown : List ℕ
-roundShown = 0xa1 ∷ 0xb2 ∷ []
-
-pub record RoundHolds : Type 0 where
-  pub records : trace (step (plain words)) (λ t c. answer (plain words) t c .entry ∷ []) roundTable roundCalls ≡ roundRecords
-  pub shown : trace (step (plain words)) (λ t c. answer (plain words) t c .part) roundTable roundCalls ≡ roundShown
+abbrev pub EachOccurs : Type 0
+EachOccurs = map (λ k. numberOf (verdict (plain words) (k .0) (k .1))) turnedDown ≡ passing 256 listed

@@ -1,1 +1,5 @@
+pub mod Hex
 pub mod Cases
+pub mod Rounds
+pub mod TagByTag
+pub mod Drops

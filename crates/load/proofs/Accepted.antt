@@ -1,33 +1,33 @@
 -- Every text loads as an accepted table.
 -- Assumes nothing.
-use mathlib.Core.Path.{_≡_, refl, sym, ap, ap₂, subst, _∙_}
+use mathlib.Core.Path.{_≡_, refl, sym, ap, subst, _∙_}
 use mathlib.Core.Bool.{Bool, true, false, cond, not, _&&_, _||_}
 use mathlib.Core.List.{List, [], _∷_, _++_}
 use mathlib.Core.Option.{Option, none, some}
-use Prim.Native.Nat.{ℕ, zero, suc, _+_, _-_, _*_, _≤_, _<_}
+use Prim.Native.Nat.{ℕ, _+_, _-_, _≤_, _<_}
 use native.Mathlib.Omega.{arith}
 use lib.Dec.{eqb, leb, ltb}
-use lib.ListN.{length, getD, take, drop, replicate, length-append, length-replicate, getD-replicate}
-use borrow.Author.Tests.{eq-eqb, eqb-true, le-leb, ltb-true, ltb-false, lt-ltb}
+use lib.ListN.{length, length-append}
+use borrow.Author.Tests.{eqb-true, le-leb, ltb-true, ltb-false}
 use Rattle.rules.specs.Table.{Slot, isFree, slotKeeps, slotFormed, keepsAll, partsFormed, accepted}
 use Rattle.rules.proofs.Facts.{and-left, and-right, both}
 use Rattle.rules.proofs.Bounded.{all-of}
 use Rattle.label.specs.declared.Label.{Label}
-use Rattle.label.specs.Tags.{empty, equalOf}
+use Rattle.label.specs.Tags.{empty}
 use Rattle.label.specs.Words.{words}
-use Rattle.label.proofs.Order.{equal-refl}
 use Rattle.entity.specs.declared.Entity.{Entity}
-use Rattle.entity.specs.Entity.{freeEntity, rightsOf, bare}
-use Rattle.block.specs.Block.{allZero, padded, blockAt}
-use Rattle.block.proofs.Lists.{drop-replicate}
+use Rattle.entity.specs.Entity.{rightsOf, bare}
+use Rattle.block.specs.Block.{padded}
 use Rattle.monitor.specs.declared.Table.{Table}
-use Rattle.monitor.specs.Table.{entityAt, placeFormed, formed, groupsOf, withSlot, hub, noContent, emptyTable}
+use Rattle.monitor.specs.Table.{entityAt, placeFormed, formed, groupsOf, withSlot, hub, emptyTable}
 use Rattle.monitor.proofs.Form.{hub-laws}
+use Rattle.monitor.proofs.Empty.{empty-entity, empty-count, empty-form}
 use Rattle.text.specs.Bytes.{hexSetOf}
 use Rattle.text.specs.Lines.{Lines, done, cut, line, fieldsIn}
-use Rattle.rows.specs.Entities.{EntitySaid, entityFormed, entityOf}
-use Rattle.load.specs.declared.Entities.{Entities}
-use Rattle.load.specs.declared.Groups.{Groups}
+use Rattle.rows.specs.declared.EntityColumns.{EntityColumns}
+use Rattle.rows.specs.Entities.{EntitySaid, entityColumns, entityFormed, entityOf}
+use Rattle.load.specs.declared.Filled.{Filled}
+use Rattle.load.specs.declared.GroupSets.{GroupSets}
 use Rattle.load.specs.declared.Verdict.{Verdict}
 use Rattle.load.specs.declared.Verdict.the-variants.{Accepted, Refused}
 use Rattle.load.specs.Blocks.{start, badLine, namesAt, rowsAt, groupsAt}
@@ -35,7 +35,7 @@ use Rattle.load.specs.Tables.{fill, breaking, breakingIn, groupsFrom, gr
 use Rattle.load.specs.Load.{refuseAt, verdictOf, onAccepted, loadOf}
 use Rattle.load.specs.Claims.{LoadsAccepted}
 use Rattle.load.proofs.Tables.{fill-none, fill-twice, fill-step, breaking-here, breaking-step, groups-none, groups-full, groups-step}
-use Rattle.load.proofs.EntityLines.{Sound, entry-sound}
+use Rattle.load.proofs.EntityLines.{Sound, row-sound}
 
 -- ---- tables whose entities keep to onSome groups
 
@@ -79,30 +79,30 @@ keep-more gs t y k s h = rw (stored t y (s .len)) (record {
 
 -- ---- filling a table with rows that keep to the groups
 
-module _ (hs : List (List ℕ)) (gs : List Label) where
-  module _ (l : List ℕ) (ls : Lines) (n m : ℕ) (t : Table) (p : 0 < m) (k : Keeping gs t) (b : breaking hs gs m (line l ls) ≡ 0)
-      (ih : (u : Table) → Keeping gs u → breaking hs gs (m + 1) ls ≡ 0 → Keeping gs (fill hs (n + 1) u ls .table)) where
-    placed : (y : EntitySaid) → entityOf hs (fieldsIn l) ≡ some y → isFree (entityAt t (y .slot) .kind) ≡ true
-        → (c : Bool) → keepsAll gs (bare (y .entity)) ≡ c → Keeping gs (fill hs n t (line l ls) .table)
+module _ (cs : EntityColumns) (gs : List Label) where
+  module _ (l : List ℕ) (ls : Lines) (n m : ℕ) (t : Table) (p : 0 < m) (k : Keeping gs t) (b : breaking cs gs m (line l ls) ≡ 0)
+      (ih : (u : Table) → Keeping gs u → breaking cs gs (m + 1) ls ≡ 0 → Keeping gs (fill cs (n + 1) u ls .table)) where
+    placed : (y : EntitySaid) → entityOf cs (fieldsIn l) ≡ some y → isFree (entityAt t (y .slot) .kind) ≡ true
+        → (c : Bool) → keepsAll gs (bare (y .entity)) ≡ c → Keeping gs (fill cs n t (line l ls) .table)
     placed y e f true h =
-        subst (λ (r : Entities). Keeping gs (r .table)) (sym (fill-step hs n t refl y e f))
-        (ih (withSlot t (y .slot) (y .entity) (padded (y .content))) (keep-more gs t y k (entry-sound hs (fieldsIn l) y e) h) (sym (breaking-step hs gs m refl y e h) ∙ b))
-    placed y e f false h = let q = sym (breaking-here hs gs m refl y e h) ∙ b in absurd (omega arith)
+        subst (λ (r : Filled). Keeping gs (r .table)) (sym (fill-step cs n t refl y e f))
+        (ih (withSlot t (y .slot) (y .entity) (padded (y .content))) (keep-more gs t y k (row-sound y cs (fieldsIn l) e) h) (sym (breaking-step cs gs m refl y e h) ∙ b))
+    placed y e f false h = let q = sym (breaking-here cs gs m refl y e h) ∙ b in absurd (omega arith)
 
-    named : (y : EntitySaid) → entityOf hs (fieldsIn l) ≡ some y → (c : Bool) → isFree (entityAt t (y .slot) .kind) ≡ c → Keeping gs (fill hs n t (line l ls) .table)
+    named : (y : EntitySaid) → entityOf cs (fieldsIn l) ≡ some y → (c : Bool) → isFree (entityAt t (y .slot) .kind) ≡ c → Keeping gs (fill cs n t (line l ls) .table)
     named y e true f = placed y e f (keepsAll gs (bare (y .entity))) refl
-    named y e false f = subst (λ (r : Entities). Keeping gs (r .table)) (sym (fill-twice hs n t refl y e f)) k
+    named y e false f = subst (λ (r : Filled). Keeping gs (r .table)) (sym (fill-twice cs n t refl y e f)) k
 
-    row : (o : Option EntitySaid) → entityOf hs (fieldsIn l) ≡ o → Keeping gs (fill hs n t (line l ls) .table)
-    row none e = subst (λ (r : Entities). Keeping gs (r .table)) (sym (fill-none hs n t refl e)) k
+    row : (o : Option EntitySaid) → entityOf cs (fieldsIn l) ≡ o → Keeping gs (fill cs n t (line l ls) .table)
+    row none e = subst (λ (r : Filled). Keeping gs (r .table)) (sym (fill-none cs n t refl e)) k
     row (some y) e = named y e (isFree (entityAt t (y .slot) .kind)) refl
 
-  fill-keeps : (ls : Lines) (n m : ℕ) (t : Table) → 0 < m → Keeping gs t → breaking hs gs m ls ≡ 0 → Keeping gs (fill hs n t ls .table)
+  fill-keeps : (ls : Lines) (n m : ℕ) (t : Table) → 0 < m → Keeping gs t → breaking cs gs m ls ≡ 0 → Keeping gs (fill cs n t ls .table)
   unfolding fill
   fill-keeps done n m t p k b = k
   fill-keeps cut n m t p k b = k
   fill-keeps (line l ls) n m t p k b =
-      row l ls n m t p k b (λ u j d. fill-keeps ls (n + 1) (m + 1) u (omega arith) j d) (entityOf hs (fieldsIn l)) refl
+      row l ls n m t p k b (λ u j d. fill-keeps ls (n + 1) (m + 1) u (omega arith) j d) (entityOf cs (fieldsIn l)) refl
 
 -- ---- groups: at most 8
 
@@ -125,7 +125,7 @@ count-few : (gs : List Label) → length gs ≤ 8 → grouped gs .count ≤ 8
 unfolding grouped
 count-few gs h = h
 
-keep-groups : (gs : List Label) (t : Table) (g : Groups) → g .count ≤ 8 → Keeping gs t → Keeping gs (withGroups t g)
+keep-groups : (gs : List Label) (t : Table) (g : GroupSets) → g .count ≤ 8 → Keeping gs t → Keeping gs (withGroups t g)
 unfolding withGroups formed placeFormed entityAt
 keep-groups gs t g h k =
     let a = eqb (length (t .entities)) 32 && eqb (length (t .content)) 2048 in
@@ -137,62 +137,9 @@ keep-groups gs t g h k =
 
 -- ---- the empty table
 
-zero-front : (n m : ℕ) → allZero (take n (replicate m 0)) ≡ true
-zero-front zero m = refl
-zero-front (suc n) zero = refl
-zero-front (suc n) (suc m) = zero-front n m
-
-empty-block : (k : ℕ) → k < 32 → allZero (drop 0 (blockAt noContent k)) ≡ true
-unfolding blockAt noContent
-empty-block k h = rw (lt-ltb k 32 h) (ap (λ (l : List ℕ). allZero (take 64 l)) (drop-replicate (k * 64) 2048 0) ∙ zero-front 64 (2048 - k * 64))
-
-empty-entity : (k : ℕ) → k < 32 → getD (emptyTable .entities) k freeEntity ≡ freeEntity
-unfolding emptyTable
-empty-entity k h = getD-replicate 32 k freeEntity freeEntity h
-
-free-formed : partsFormed (bare freeEntity) (freeEntity .len) ≡ true
-unfolding empty equalOf
-free-formed = rw (equal-refl 64 0)
-
-empty-content : emptyTable .content ≡ noContent
-unfolding emptyTable
-empty-content = refl
-
-empty-slots : length (emptyTable .entities) ≡ 32
-unfolding emptyTable
-empty-slots = length-replicate 32 freeEntity
-
-empty-bytes : length noContent ≡ 2048
-unfolding noContent
-empty-bytes = length-replicate {A = ℕ} 2048 0
-
-empty-count : emptyTable .count ≡ 0
-unfolding emptyTable
-empty-count = refl
-
-empty-at : (k : ℕ) → k < 32 → entityAt emptyTable k ≡ freeEntity
-unfolding entityAt
-empty-at k h = rw (lt-ltb k 32 h) (empty-entity k h)
-
-empty-place : (k : ℕ) → k < 32 → placeFormed emptyTable k ≡ true
-unfolding placeFormed
-empty-place k h =
-    ap₂
-    (λ (x : Entity) (c : List ℕ). partsFormed (bare x) (x .len) && allZero (drop (x .len) (blockAt c k)))
-    (empty-at k h)
-    empty-content
-    ∙ both _ _ free-formed (empty-block k h)
-
-empty-form : formed emptyTable ≡ true
-unfolding formed
-empty-form =
-    both (eqb (length (emptyTable .entities)) 32 && eqb (length (emptyTable .content)) 2048) _
-    (both (eqb (length (emptyTable .entities)) 32) _ (eq-eqb _ _ empty-slots) (eq-eqb _ _ (ap length empty-content ∙ empty-bytes)))
-    (both (leb (emptyTable .count) 8) _ (le-leb (emptyTable .count) 8 (omega (arith, empty-count))) (all-of 32 (placeFormed emptyTable) empty-place))
-
 empty-keeping : (gs : List Label) → Keeping gs emptyTable
 empty-keeping gs = record {
-  form = empty-form;
+  form = empty-form (emptyTable .groups) (emptyTable .count) (omega (arith, empty-count));
   keeps = λ i l. ap (λ (x : Entity). isFree (x .kind) || keepsAll gs (bare x)) (empty-entity i l);
 }
 
@@ -233,7 +180,7 @@ module _ (text : List ℕ) where
       let gs = groupsOf (tableIn text) in
       keeping-accepted (tableIn text)
       (keep-groups gs (entitiesIn text .table) (groupsIn text) (count-few _ (few (rowsAt text (groupsAt text)) [] (omega arith)))
-      (fill-keeps (namesAt text start) gs (rowsAt text start) 2 2 emptyTable (omega arith) (empty-keeping gs) b))
+      (fill-keeps (entityColumns (namesAt text start)) gs (rowsAt text start) 2 2 emptyTable (omega arith) (empty-keeping gs) b))
 
 pub loads-accepted : LoadsAccepted
 unfolding loadOf

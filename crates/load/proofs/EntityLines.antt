@@ -9,14 +9,13 @@ use native.Mathlib.Omega.{arith}
 use lib.Dec.{eqb, leb, ltb}
 use lib.ListN.{length}
 use borrow.Author.Tests.{leb-true}
-use Rattle.rules.specs.declared.Kind.{Kind}
 use Rattle.rules.proofs.Facts.{and-right}
 use Rattle.entity.specs.declared.Entity.{Entity}
 use Rattle.text.specs.Bytes.{digitOf, decimalFrom, decimalOf, dataOf}
-use Rattle.text.specs.Lines.{under}
-use Rattle.rows.specs.Options.{_>>=_}
-use Rattle.rows.specs.Names.{slotName, kindName, dataName}
-use Rattle.rows.specs.Entities.{EntitySaid, kindNamed, entityFormed, entityIn, entitySaidFrom, entityOf}
+use Rattle.text.specs.Lines.{fieldAt}
+use Rattle.text.specs.Options.{_>>=_}
+use Rattle.rows.specs.declared.EntityColumns.{EntityColumns}
+use Rattle.rows.specs.Entities.{EntitySaid, kindNamed, entityFormed, entityIn, entityBy, entityOf}
 use Rattle.rows.proofs.Laws.{entity-len}
 
 absurd-none : {A : Type 0} {x : A} → none ≡ some x → ⊥
@@ -49,42 +48,42 @@ decimal-le max (b ∷ d ∷ bs) k e = go (eqb b 48) e
     go true f = absurd (absurd-none f)
     go false f = decimal-from max 0 (b ∷ d ∷ bs) k (omega arith) f
 
--- ---- entries
+-- ---- a row of the entities
 
 pub record Sound (y : EntitySaid) : Type 0 where
   pub slot : y .slot < 32
   pub formed : entityFormed (y .entity) ≡ true
   pub len : y .entity .len ≡ length (y .content)
 
-module _ (hs fs : List (List ℕ)) (y : EntitySaid) where
-  from-entity : (k : ℕ) (bs : List ℕ) (e : Entity) → k < 32 → e .len ≡ length bs → entitySaidFrom hs fs k bs e ≡ some y → Sound y
-  unfolding entitySaidFrom
-  from-entity k bs e h l q = go (entityFormed e) refl q
-    where
-      go : (t : Bool) → entityFormed e ≡ t → cond t (some (record { slot = k; entity = e; content = bs })) none ≡ some y → Sound y
-      go true f p = let r = some-is p in
-          rw (← r) (record { slot = h; formed = f; len = l })
-      go false f p = absurd (absurd-none p)
+module _ (y : EntitySaid) where
+  from-entity : (k : ℕ) (bs : List ℕ) (e : Entity) → k < 32 → e .len ≡ length bs → (t : Bool) → entityFormed e ≡ t
+      → cond t (some (record { slot = k; entity = e; content = bs })) none ≡ some y → Sound y
+  from-entity k bs e h l true f p = let r = some-is p in rw (← r) (record { slot = h; formed = f; len = l })
+  from-entity k bs e h l false f p = absurd (absurd-none p)
 
-  from-data : (k : ℕ) (bs : List ℕ) (kind : Kind) → k < 32 → (o : Option Entity) → entityIn hs fs kind (length bs) ≡ o → (o >>= λ e. entitySaidFrom hs fs k bs e) ≡ some y → Sound y
-  from-data k bs kind h none q p = absurd (absurd-none p)
-  from-data k bs kind h (some e) q p = from-entity k bs e h (entity-len hs fs kind (length bs) e q) p
+  from-read : (k : ℕ) (bs : List ℕ) → k < 32 → (o : Option Entity) → ((e : Entity) → o ≡ some e → e .len ≡ length bs)
+      → (o >>= λ e. cond (entityFormed e) (some (record { slot = k; entity = e; content = bs })) none) ≡ some y → Sound y
+  from-read k bs h none l p = absurd (absurd-none p)
+  from-read k bs h (some e) l p = from-entity k bs e h (l e refl) (entityFormed e) refl p
 
-  from-slot : (k : ℕ) (kind : Kind) → k < 32 → (o : Option (List ℕ)) → (o >>= λ bs. entityIn hs fs kind (length bs) >>= λ e. entitySaidFrom hs fs k bs e) ≡ some y → Sound y
-  from-slot k kind h none p = absurd (absurd-none p)
-  from-slot k kind h (some bs) p = from-data k bs kind h (entityIn hs fs kind (length bs)) refl p
+  module _ (r : ℕ → Option Entity) (l : (n : ℕ) (e : Entity) → r n ≡ some e → e .len ≡ n) where
+    from-data : (k : ℕ) → k < 32 → (o : Option (List ℕ))
+        → (o >>= λ bs. r (length bs) >>= λ e. cond (entityFormed e) (some (record { slot = k; entity = e; content = bs })) none) ≡ some y → Sound y
+    from-data k h none p = absurd (absurd-none p)
+    from-data k h (some bs) p = from-read k bs h (r (length bs)) (l (length bs)) p
 
-  from-columns : (kind : Kind) (o : Option ℕ) → decimalOf 31 (under slotName hs fs) ≡ o
-      → (o >>= λ k. dataOf 64 (under dataName hs fs) >>= λ bs. entityIn hs fs kind (length bs) >>= λ e. entitySaidFrom hs fs k bs e) ≡ some y → Sound y
-  from-columns kind none q p = absurd (absurd-none p)
-  from-columns kind (some k) q p =
-      let l = decimal-le 31 (under slotName hs fs) k q in
-      from-slot k kind (omega arith) (dataOf 64 (under dataName hs fs)) p
+    from-slot : (f : List ℕ) (d : Option (List ℕ)) (o : Option ℕ) → decimalOf 31 f ≡ o
+        → (o >>= λ k. d >>= λ bs. r (length bs) >>= λ e. cond (entityFormed e) (some (record { slot = k; entity = e; content = bs })) none) ≡ some y → Sound y
+    from-slot f d none q p = absurd (absurd-none p)
+    from-slot f d (some k) q p = let m = decimal-le 31 f k q in from-data k (omega arith) d p
 
-  pub entry-sound : entityOf hs fs ≡ some y → Sound y
+  by-sound : (nine : Bool) (slot kind sec int sa sd ia id content : List ℕ) → entityBy nine slot kind sec int sa sd ia id content ≡ some y → Sound y
+  unfolding entityBy
+  by-sound false slot kind sec int sa sd ia id content p = absurd (absurd-none p)
+  by-sound true slot kind sec int sa sd ia id content p =
+      from-slot (entityIn sec int sa sd ia id (kindNamed kind)) (entity-len sec int sa sd ia id (kindNamed kind)) slot (dataOf 64 content) (decimalOf 31 slot) refl p
+
+  pub row-sound : (cs : EntityColumns) (fs : List (List ℕ)) → entityOf cs fs ≡ some y → Sound y
   unfolding entityOf
-  entry-sound p = go (eqb (length fs) 9) p
-    where
-      go : (t : Bool) → cond t (decimalOf 31 (under slotName hs fs) >>= λ k. dataOf 64 (under dataName hs fs) >>= λ bs. entityIn hs fs (kindNamed (under kindName hs fs)) (length bs) >>= λ e. entitySaidFrom hs fs k bs e) none ≡ some y → Sound y
-      go true q = from-columns (kindNamed (under kindName hs fs)) (decimalOf 31 (under slotName hs fs)) refl q
-      go false q = absurd (absurd-none q)
+  row-sound cs fs p =
+      by-sound (eqb (length fs) 9) (fieldAt fs (cs .slot)) (fieldAt fs (cs .kind)) (fieldAt fs (cs .sec)) (fieldAt fs (cs .int)) (fieldAt fs (cs .sa)) (fieldAt fs (cs .sd)) (fieldAt fs (cs .ia)) (fieldAt fs (cs .id)) (fieldAt fs (cs .content)) p

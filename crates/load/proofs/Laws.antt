@@ -1,31 +1,33 @@
 -- What the definitions of loading say at one line.
 -- Assumes nothing.
 use mathlib.Core.Path.{_≡_, refl, sym, ap, _∙_}
-use mathlib.Core.Bool.{Bool, true, false}
+use mathlib.Core.Bool.{Bool, true, false, cond, not, _&&_}
 use mathlib.Core.List.{List, [], _∷_}
 use mathlib.Core.Option.{Option, none, some}
 use Prim.Native.Nat.{ℕ, _+_, _-_, _≤_, _<_}
 use native.Mathlib.Omega.{arith}
-use lib.Dec.{ltb}
+use lib.Dec.{eqb, leb, ltb}
 use lib.ListN.{length, drop, length-drop}
 use lib.Seq.{length-take-le}
-use borrow.Author.Tests.{eq-eqb, ne-eqb, lt-ltb, le-ltb, ltb-true, ltb-false}
+use native.Mathlib.Decide.{decLe}
+use borrow.Author.Tests.{eq-eqb, ne-eqb, lt-ltb, le-ltb, le-leb, lt-leb, ltb-true, ltb-false}
 use Rattle.label.specs.declared.Label.{Label}
 use Rattle.text.specs.declared.Tags.{Tags}
 use Rattle.text.specs.declared.Tags.the-variants as Tags
-use Rattle.text.specs.Lines.{Lines, done, cut, line, lineEnd, lineAt, nextLine, namesOnce}
+use Rattle.text.specs.Lines.{Lines, done, cut, line, linesOf, lineEnd, lineAt, nextLine}
 use Rattle.text.specs.Answers.{asTags}
-use Rattle.text.proofs.Laws.{Over, line-ends, line-part, next-whole, next-none}
+use Rattle.text.proofs.Laws.{Over, line-ends, line-part, lines-end, next-whole, next-none}
 use Rattle.rows.specs.Entities.{EntitySaid, asEntityRow}
 use Rattle.rows.specs.declared.Placed.the-variants as Placed
 use Rattle.rows.specs.declared.EntityRow.{EntityRow}
 use Rattle.entity.specs.declared.Entity.{Entity}
 use Rattle.rules.specs.declared.Call.{Call as Named}
-use Rattle.rows.specs.Calls.{CallSaid, asCallRow}
-use Rattle.rows.specs.declared.CallRead.the-variants as CallRead
-use Rattle.rows.specs.declared.CallRow.{CallRow}
+use Rattle.callrows.specs.Calls.{CallSaid, asCallRow}
+use Rattle.callrows.specs.declared.CallRead.the-variants as CallRead
+use Rattle.callrows.specs.declared.CallRow.{CallRow}
 use Rattle.load.specs.declared.Place.{Place}
-use Rattle.load.specs.Blocks.{bytesPast, linesPast, rowsBad, blockBad, namesAt, rowsAt, isSome}
+use Rattle.load.specs.declared.Block.{Block}
+use Rattle.load.specs.Blocks.{bytesPast, linesPast, rowGood, isLast, rowsBad, blockBad, rowsAt, isSome}
 
 -- ---- lines
 
@@ -78,57 +80,65 @@ next-within text at h = go (ltb (lineEnd text at) (length text)) refl
 
 -- ---- the rows of a block
 
-module _ (good : ℕ → List ℕ → Bool) (n i : ℕ) where
-  pub rows-over : (ls : Lines) → Over ls → rowsBad good false n i ls ≡ n
-  unfolding rowsBad
-  rows-over done h = refl
-  rows-over cut h = refl
-  rows-over (line l ls) h = absurd h
+and-true : (t : Bool) → t && true ≡ t
+and-true true = refl
+and-true false = refl
 
-  pub rows-done : {all : Lines} → all ≡ done → rowsBad good true n i all ≡ 0
-  unfolding rowsBad
-  rows-done w = rw w
+and-false : (t : Bool) → t && false ≡ false
+and-false true = refl
+and-false false = refl
 
-  pub rows-cut : {all : Lines} → all ≡ cut → rowsBad good true n i all ≡ n
+module _ (b : Block) (n i : ℕ) where
+  module _ (text : List ℕ) (at e : ℕ) (h : at ≤ length text) (q : e ≡ lineEnd text at) (k : length text ≤ e) where
+    -- no whole line is left
+    pub rows-over : rowsBad b n i (linesOf (drop at text)) ≡ cond (isLast b && leb (length text) at) 0 n
+    unfolding rowsBad
+    rows-over = elim (decLe (length text) at) [
+      | yes p ↦ rw (lines-end text at p, rowsBad, le-leb _ _ p, and-true (isLast b))
+      | no p ↦ rw (line-ends text at e h q .last k (omega arith), rowsBad, lt-leb (length text) at (omega arith), and-false (isLast b))
+    ]
+
+  pub rows-cut : {all : Lines} → all ≡ cut → rowsBad b n i all ≡ n
   unfolding rowsBad
   rows-cut w = rw w
 
-  module _ {all : Lines} {l : List ℕ} {ls : Lines} (w : all ≡ line l ls) where
-    pub rows-empty : length l ≡ 0 → rowsBad good false n i all ≡ 0
+  module _ {all : Lines} {l : List ℕ} {ls : Lines} (w : all ≡ line l ls) (t : Bool) (empty : t ≡ eqb (length l) 0) where
+    pub rows-empty : (not (isLast b) && t) ≡ true → rowsBad b n i all ≡ 0
     unfolding rowsBad
-    rows-empty h = rw (w, rowsBad, eq-eqb _ _ h)
+    rows-empty h = rw (w, rowsBad, ← empty, h)
 
-    pub last-bad : good i l ≡ false → rowsBad good true n i all ≡ n
-    unfolding rowsBad
-    last-bad e = rw (w, rowsBad, e)
-
-    pub last-step : good i l ≡ true → rowsBad good true n i all ≡ rowsBad good true (n + 1) (i + 1) ls
-    unfolding rowsBad
-    last-step e = rw (w, rowsBad, e)
-
-    module _ (h : 0 < length l) where
-      pub rows-bad : good i l ≡ false → rowsBad good false n i all ≡ n
+    module _ (h : (not (isLast b) && t) ≡ false) where
+      pub rows-bad : rowGood b i l ≡ false → rowsBad b n i all ≡ n
       unfolding rowsBad
-      rows-bad e = rw (w, rowsBad, ne-eqb (length l) 0 (λ q. omega arith), e)
+      rows-bad g = rw (w, rowsBad, ← empty, h, g)
 
-      pub rows-step : good i l ≡ true → rowsBad good false n i all ≡ rowsBad good false (n + 1) (i + 1) ls
+      pub rows-step : rowGood b i l ≡ true → rowsBad b n i all ≡ rowsBad b (n + 1) (i + 1) ls
       unfolding rowsBad
-      rows-step e = rw (w, rowsBad, ne-eqb (length l) 0 (λ q. omega arith), e)
+      rows-step g = rw (w, rowsBad, ← empty, h, g)
+
+-- a line is empty where it ends at its place
+pub empty-line : (text : List ℕ) (at e : ℕ) → at ≤ length text → e ≡ lineEnd text at → leb e at ≡ eqb (length (lineAt text at)) 0
+empty-line text at e h q =
+    let l = length-line text at e h q in
+    let k = line-ends text at e h q in
+    elim (decLe e at) [
+      | yes p ↦ le-leb e at p ∙ sym (eq-eqb (length (lineAt text at)) 0 (omega arith))
+      | no p ↦ lt-leb e at (omega arith) ∙ sym (ne-eqb (length (lineAt text at)) 0 (λ z. omega arith))
+    ]
 
 -- ---- a block
 
-module _ (names : List (List ℕ)) (good : List (List ℕ) → ℕ → List ℕ → Bool) (last : Bool) (text : List ℕ) (p : Place) where
-  pub block-none : length text ≤ lineEnd text (p .at) → blockBad names good last text p ≡ p .line
+module _ (b : Block) (named : Bool) (text : List ℕ) (p : Place) where
+  pub block-none : length text ≤ lineEnd text (p .at) → blockBad b named text p ≡ p .line
   unfolding blockBad
   block-none h = rw (le-ltb _ _ h)
 
   module _ (h : lineEnd text (p .at) < length text) where
-    pub block-other : namesOnce names (namesAt text p) ≡ false → blockBad names good last text p ≡ p .line
+    pub block-other : named ≡ false → blockBad b named text p ≡ p .line
     unfolding blockBad
     block-other e = rw (lt-ltb _ _ h, e)
 
-    pub block-names : namesOnce names (namesAt text p) ≡ true
-        → blockBad names good last text p ≡ rowsBad (good (namesAt text p)) last (p .line + 1) 0 (rowsAt text p)
+    pub block-names : named ≡ true → blockBad b named text p ≡ rowsBad b (p .line + 1) 0 (rowsAt text p)
     unfolding blockBad
     block-names e = rw (lt-ltb _ _ h, e)
 

@@ -17,9 +17,13 @@ use Rattle.entity.specs.Entity.{bare}
 use Rattle.block.specs.Block.{padded}
 use Rattle.monitor.specs.declared.Table.{Table}
 use Rattle.monitor.specs.Table.{entityAt, withSlot}
+use Rattle.text.specs.declared.Tags.{Tags}
+use Rattle.text.specs.declared.Tags.the-variants as Tags
 use Rattle.text.specs.Bytes.{hexSetOf}
+use Rattle.text.specs.Answers.{asTags}
 use Rattle.text.specs.Lines.{Lines, done, cut, line, linesOf, fieldsIn}
 use Rattle.text.proofs.Laws.{Over}
+use Rattle.rows.specs.declared.EntityColumns.{EntityColumns}
 use Rattle.rows.specs.Entities.{EntitySaid, entityOf, asEntityRow}
 use Rattle.rows.specs.declared.Placed.the-variants as Placed
 use Rattle.rows.specs.declared.EntityRow.{EntityRow}
@@ -43,58 +47,68 @@ pub row-none : (r : EntityRow) (o : Option EntitySaid) → r ≡ asEntityRow o �
 row-none r none e f = refl
 row-none r (some y) e f = let q = ap (λ (z : EntityRow). z .placed) e in cc
 
-module _ (hs : List (List ℕ)) where
+-- ---- a set that was read
+
+pub tags-some : {r : Tags} {l : Label} (o : Option Label) → r ≡ asTags o → r ≡ Tags.Set l → o ≡ some l
+tags-some none e f = cc
+tags-some (some m) e f = cc
+
+pub tags-none : {r : Tags} (o : Option Label) → r ≡ asTags o → r ≡ Tags.Bad → o ≡ none
+tags-none none e f = refl
+tags-none (some m) e f = cc
+
+module _ (cs : EntityColumns) where
   -- ---- fill
 
   module _ (n : ℕ) (t : Table) where
-    pub fill-over : (ls : Lines) → Over ls → fill hs n t ls ≡ record { twice = 0; table = t }
+    pub fill-over : (ls : Lines) → Over ls → fill cs n t ls ≡ record { twice = 0; table = t }
     unfolding fill
     fill-over done h = refl
     fill-over cut h = refl
     fill-over (line l ls) h = absurd h
 
     module _ {all : Lines} {l : List ℕ} {ls : Lines} (w : all ≡ line l ls) where
-      pub fill-none : entityOf hs (fieldsIn l) ≡ none → fill hs n t all ≡ record { twice = 0; table = t }
+      pub fill-none : entityOf cs (fieldsIn l) ≡ none → fill cs n t all ≡ record { twice = 0; table = t }
       unfolding fill
       fill-none e = rw (w, fill, e)
 
-      module _ (y : EntitySaid) (e : entityOf hs (fieldsIn l) ≡ some y) where
-        pub fill-twice : isFree (entityAt t (y .slot) .kind) ≡ false → fill hs n t all ≡ record { twice = n; table = t }
+      module _ (y : EntitySaid) (e : entityOf cs (fieldsIn l) ≡ some y) where
+        pub fill-twice : isFree (entityAt t (y .slot) .kind) ≡ false → fill cs n t all ≡ record { twice = n; table = t }
         unfolding fill
         fill-twice f = rw (w, fill, e) (rw f)
 
         pub fill-step : isFree (entityAt t (y .slot) .kind) ≡ true
-            → fill hs n t all ≡ fill hs (n + 1) (withSlot t (y .slot) (y .entity) (padded (y .content))) ls
+            → fill cs n t all ≡ fill cs (n + 1) (withSlot t (y .slot) (y .entity) (padded (y .content))) ls
         unfolding fill
         fill-step f = rw (w, fill, e) (rw f)
 
   -- ---- breaking
 
   module _ (gs : List Label) (n : ℕ) where
-    pub breaking-over : (ls : Lines) → Over ls → breaking hs gs n ls ≡ 0
+    pub breaking-over : (ls : Lines) → Over ls → breaking cs gs n ls ≡ 0
     unfolding breaking
     breaking-over done h = refl
     breaking-over cut h = refl
     breaking-over (line l ls) h = absurd h
 
     module _ {all : Lines} {l : List ℕ} {ls : Lines} (w : all ≡ line l ls) where
-      pub breaking-none : entityOf hs (fieldsIn l) ≡ none → breaking hs gs n all ≡ 0
+      pub breaking-none : entityOf cs (fieldsIn l) ≡ none → breaking cs gs n all ≡ 0
       unfolding breaking
       breaking-none e = rw (w, breaking, e)
 
-      module _ (y : EntitySaid) (e : entityOf hs (fieldsIn l) ≡ some y) where
+      module _ (y : EntitySaid) (e : entityOf cs (fieldsIn l) ≡ some y) where
         abbrev keeps : Bool
         keeps = keepsAll gs (bare (y .entity))
 
-        either : breaking hs gs n all ≡ cond keeps (breaking hs gs (n + 1) ls) n
+        either : breaking cs gs n all ≡ cond keeps (breaking cs gs (n + 1) ls) n
         unfolding breaking
         either = rw (w, breaking, e)
 
-        pub breaking-here : keeps ≡ false → breaking hs gs n all ≡ n
-        breaking-here f = either ∙ ap (λ (b : Bool). cond b (breaking hs gs (n + 1) ls) n) f
+        pub breaking-here : keeps ≡ false → breaking cs gs n all ≡ n
+        breaking-here f = either ∙ ap (λ (b : Bool). cond b (breaking cs gs (n + 1) ls) n) f
 
-        pub breaking-step : keeps ≡ true → breaking hs gs n all ≡ breaking hs gs (n + 1) ls
-        breaking-step f = either ∙ ap (λ (b : Bool). cond b (breaking hs gs (n + 1) ls) n) f
+        pub breaking-step : keeps ≡ true → breaking cs gs n all ≡ breaking cs gs (n + 1) ls
+        breaking-step f = either ∙ ap (λ (b : Bool). cond b (breaking cs gs (n + 1) ls) n) f
 
 -- ---- groups
 

@@ -8,9 +8,11 @@ use lib.ListN.{length, drop}
 use lib.Dec.{eqb, ltb}
 use Rattle.text.specs.Bytes.{hexSetOf}
 use Rattle.text.specs.Lines.{Lines, done, cut, line, linesOf, lineEnd, lineAt, nextLine, fieldsIn, namesOnce}
-use Rattle.rows.specs.Names.{entityNames, groupNames, callNames}
-use Rattle.rows.specs.Entities.{entityOf}
-use Rattle.rows.specs.Calls.{callOf}
+use Rattle.rows.specs.Names.{entityNames, groupNames}
+use Rattle.rows.specs.Entities.{entityColumns, entityOf}
+use Rattle.callrows.specs.Calls.{callNames, callColumns, callOf}
+use Rattle.load.specs.declared.Block.{Block}
+use Rattle.load.specs.declared.Block.the-variants as Block
 use Rattle.load.specs.declared.Place.{Place}
 
 -- ---- places: an empty line stands between a block and the next
@@ -56,34 +58,44 @@ module _ (text : List ℕ) where
 
 -- ---- 15
 
--- The first bad line of a block's rows, or 0. The next line has number n, and i rows stand before it; a row is tested by
--- its index and its line. The last block ends with the text, another with an empty line
-module _ (good : ℕ → List ℕ → Bool) (last : Bool) where
-  unfoldable pub rowsBad : ℕ → ℕ → Lines → ℕ
-  rowsBad n i done = cond last 0 n
-  rowsBad n i cut = n
-  rowsBad n i (line l ls) = cond (not last && eqb (length l) 0) 0 (cond (good i l) (rowsBad (n + 1) (i + 1) ls) n)
-
--- The first bad line of a block, or 0: the names of its columns, each once, and then its rows
-unfoldable pub blockBad : List (List ℕ) → (List (List ℕ) → ℕ → List ℕ → Bool) → Bool → List ℕ → Place → ℕ
-blockBad names good last text p =
-    cond (ltb (lineEnd text (p .at)) (length text) && namesOnce names (namesAt text p))
-    (rowsBad (good (namesAt text p)) last (p .line + 1) 0 (rowsAt text p))
-    (p .line)
-
 abbrev pub isSome : {A : Type 0} → Option A → Bool
 isSome none = false
 isSome (some a) = true
 
--- a row of the entities; of the groups, at most 8 and each one set; of the calls
-unfoldable pub entityGood : List (List ℕ) → ℕ → List ℕ → Bool
-entityGood hs i l = isSome (entityOf hs (fieldsIn l))
+-- a row of a block, where i rows stand before it: of the entities; of the groups, at most 8 and each one set; of the calls
+abbrev pub rowGood : Block → ℕ → List ℕ → Bool
+rowGood (Block.Entities cs) i l = isSome (entityOf cs (fieldsIn l))
+rowGood Block.Groups i l = ltb i 8 && isSome (hexSetOf l)
+rowGood (Block.Calls cs) i l = isSome (callOf cs (fieldsIn l))
 
-unfoldable pub groupGood : List (List ℕ) → ℕ → List ℕ → Bool
-groupGood hs i l = ltb i 8 && isSome (hexSetOf l)
+-- the last block ends with the text, another with an empty line
+abbrev pub isLast : Block → Bool
+isLast (Block.Entities cs) = false
+isLast Block.Groups = false
+isLast (Block.Calls cs) = true
 
-unfoldable pub callGood : List (List ℕ) → ℕ → List ℕ → Bool
-callGood hs i l = isSome (callOf hs (fieldsIn l))
+module _ (b : Block) where
+  -- The first bad line of a block's rows, or 0. The next line has number n, and i rows stand before it
+  unfoldable pub rowsBad : ℕ → ℕ → Lines → ℕ
+  rowsBad n i done = cond (isLast b) 0 n
+  rowsBad n i cut = n
+  rowsBad n i (line l ls) =
+      cond (not (isLast b) && eqb (length l) 0) 0 (cond (rowGood b i l) (rowsBad (n + 1) (i + 1) ls) n)
+
+  -- The first bad line of a block, or 0: its line of names, which are the block's or not, and then its rows
+  unfoldable pub blockBad : Bool → List ℕ → Place → ℕ
+  blockBad named text p =
+      cond (ltb (lineEnd text (p .at)) (length text) && named) (rowsBad (p .line + 1) 0 (rowsAt text p)) (p .line)
+
+module _ (text : List ℕ) where
+  unfoldable pub entitiesBad : Place → ℕ
+  entitiesBad p = blockBad (Block.Entities (entityColumns (namesAt text p))) (namesOnce entityNames (namesAt text p)) text p
+
+  unfoldable pub groupsBad : Place → ℕ
+  groupsBad p = blockBad Block.Groups (namesOnce groupNames (namesAt text p)) text p
+
+  unfoldable pub callsBad : Place → ℕ
+  callsBad p = blockBad (Block.Calls (callColumns (namesAt text p))) (namesOnce callNames (namesAt text p)) text p
 
 -- the first number that is not 0
 unfoldable pub orElse : ℕ → ℕ → ℕ
@@ -91,6 +103,4 @@ orElse a b = cond (eqb a 0) b a
 
 -- the first bad line of a text, or 0
 unfoldable pub badLine : List ℕ → ℕ
-badLine text =
-    orElse (blockBad entityNames entityGood false text start)
-    (orElse (blockBad groupNames groupGood false text (groupsAt text)) (blockBad callNames callGood true text (callsAt text)))
+badLine text = orElse (entitiesBad text start) (orElse (groupsBad text (groupsAt text)) (callsBad text (callsAt text)))

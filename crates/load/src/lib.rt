@@ -1,23 +1,22 @@
 // Loading a table from its text, and the calls of the text one by one.
 ghost use mathlib.Core.Path.{_≡_};
-ghost use mathlib.Core.Bool.{true, false};
-ghost use mathlib.Core.List.{List, []};
-ghost use Prim.Native.Nat.{ℕ, _+_, _<_, _≤_};
+ghost use mathlib.Core.List.{[]};
+ghost use Prim.Native.Nat.{_+_, _<_, _≤_};
 ghost use lib.ListN.{length, drop};
 ghost use Rattle.text.specs.Bytes.{hexSetOf};
 ghost use Rattle.text.specs.Lines.{linesOf, fieldsIn};
-ghost use Rattle.rows.specs.Names.{entityNames, groupNames, callNames};
 ghost use Rattle.rows.specs.Entities.{entityOf};
-ghost use Rattle.rows.specs.Calls.{callOf};
+ghost use Rattle.callrows.specs.Calls.{callOf};
 ghost use Rattle.monitor.specs.Table.{groupsOf, emptyTable};
-ghost use Rattle.load.specs.Blocks.{start, pastEmpty, groupsAt, callsAt, rowsBad, blockBad, isSome, entityGood, groupGood, callGood, badLine};
+ghost use Rattle.load.specs.Blocks.{start, pastEmpty, groupsAt, callsAt, isSome, rowGood, isLast, rowsBad, blockBad, entitiesBad, groupsBad, callsBad, badLine};
 ghost use Rattle.load.specs.Tables.{fill, breaking, breakingIn, groupsFrom, grouped, noGroups, withGroups, entitiesIn, groupsIn};
-ghost use Rattle.load.specs.Load.{refusedBy, loadOf};
-ghost use Rattle.load.specs.CallsIn.{callAt};
+ghost use Rattle.load.specs.Load.{verdictNumber, verdictLine, refusedBy, loadOf};
+ghost use Rattle.load.specs.CallsIn.{callColumnsIn};
+use callrows::CallColumns;
+use callrows::CallRead;
 use label::Label;
 use monitor::Table;
-use rows::CallRead;
-use rows::CallRow;
+use rows::EntityColumns;
 use rows::Placed;
 use text::Tags;
 
@@ -27,14 +26,21 @@ pub struct Place {
     pub line: usize,
 }
 
+// A block of a text: the columns that its rows have. Groups have one.
+pub enum Block {
+    Entities(EntityColumns),
+    Groups,
+    Calls(CallColumns),
+}
+
 // The entities of a text, in a table; and the first line whose slot an earlier one names, or 0.
-pub struct Entities {
+pub struct Filled {
     pub twice: usize,
     pub table: Table,
 }
 
 // The groups of a text.
-pub struct Groups {
+pub struct GroupSets {
     pub sets: [Label; 8],
     pub count: usize,
 }
@@ -73,10 +79,10 @@ fn past_empty(text: &[u8], from: Place) -> Place
     }
 }
 
-fn is_entity(header: &[u8], row: &[u8]) -> bool
-    ensures { λ r. ⌜ r ≡ isSome (entityOf (fieldsIn (now (header .entry))) (fieldsIn (now (row .entry)))) ⌝ }
+fn is_entity(columns: EntityColumns, row: &[u8]) -> bool
+    ensures { λ r. ⌜ r ≡ isSome (entityOf columns (fieldsIn (now (row .entry)))) ⌝ }
 {
-    let r = rows::entity_row(header, row);
+    let r = rows::entity_row(columns, row);
     let placed = r.placed;
     match placed {
         Placed::At(k, e) => true,
@@ -94,10 +100,10 @@ fn is_set(row: &[u8]) -> bool
     }
 }
 
-fn is_call(header: &[u8], row: &[u8]) -> bool
-    ensures { λ r. ⌜ r ≡ isSome (callOf (fieldsIn (now (header .entry))) (fieldsIn (now (row .entry)))) ⌝ }
+fn is_call(columns: CallColumns, row: &[u8]) -> bool
+    ensures { λ r. ⌜ r ≡ isSome (callOf columns (fieldsIn (now (row .entry)))) ⌝ }
 {
-    let r = rows::call_row(header, row);
+    let r = callrows::call_row(columns, row);
     let read = r.read;
     match read {
         CallRead::Call(c) => true,
@@ -105,49 +111,48 @@ fn is_call(header: &[u8], row: &[u8]) -> bool
     }
 }
 
-// The first bad line of the rows of entities, or 0.
-fn entity_rows(text: &[u8], header: &[u8], from: usize, first: usize) -> usize
-    requires { ⌜ (from ≤ length (now text)) × (first ≤ from + 1) ⌝ }
-    ensures { λ r. ⌜ r ≡ rowsBad (entityGood (fieldsIn (now (header .entry)))) false first 0 (linesOf (drop from (now (text .entry)))) ⌝ }
+// Whether a row of a block has the form, where i rows of it stand before.
+fn row_good(block: Block, i: usize, row: &[u8]) -> bool
+    ensures { λ r. ⌜ r ≡ rowGood block i (now (row .entry)) ⌝ }
 {
-    let mut at = from;
-    let mut line = first;
-    loop {
-        let end = text::line_end(text, at);
-        if text.len() <= end {
-            return line;
-        }
-        if end <= at {
-            return 0;
-        }
-        if !is_entity(header, text::line_at(text, at)) {
-            return line;
-        }
-        at = end + 1;
-        line += 1;
+    match block {
+        Block::Entities(columns) => is_entity(columns, row),
+        Block::Groups => (i < 8) & is_set(row),
+        Block::Calls(columns) => is_call(columns, row),
     }
 }
 
-// The first bad line of the rows of groups, or 0.
-fn group_rows(text: &[u8], from: usize, first: usize) -> usize
-    requires { ⌜ (from ≤ length (now text)) × (first ≤ from + 1) ⌝ }
-    ensures { λ r. ⌜ ((hs : List (List ℕ)) → r ≡ rowsBad (groupGood hs) false first 0 (linesOf (drop from (now (text .entry))))) ⌝ }
+fn is_last(block: Block) -> bool
+    ensures { λ r. ⌜ r ≡ isLast block ⌝ }
 {
+    match block {
+        Block::Entities(columns) => false,
+        Block::Groups => false,
+        Block::Calls(columns) => true,
+    }
+}
+
+// The first bad line of the rows of a block, or 0.
+fn rows_bad(text: &[u8], block: Block, from: usize, first: usize) -> usize
+    requires { ⌜ (from ≤ length (now text)) × (first ≤ from + 1) ⌝ }
+    ensures { λ r. ⌜ r ≡ rowsBad block first 0 (linesOf (drop from (now (text .entry)))) ⌝ }
+{
+    let last = is_last(block);
     let mut at = from;
     let mut line = first;
     let mut i: usize = 0;
     loop {
         let end = text::line_end(text, at);
         if text.len() <= end {
+            if last & (text.len() <= at) {
+                return 0;
+            }
             return line;
         }
-        if end <= at {
+        if !last & (end <= at) {
             return 0;
         }
-        if 8 <= i {
-            return line;
-        }
-        if !is_set(text::line_at(text, at)) {
+        if !row_good(block, i, &text[at..end]) {
             return line;
         }
         at = end + 1;
@@ -156,75 +161,20 @@ fn group_rows(text: &[u8], from: usize, first: usize) -> usize
     }
 }
 
-// The first bad line of the rows of calls, or 0.
-fn call_rows(text: &[u8], header: &[u8], from: usize, first: usize) -> usize
-    requires { ⌜ (from ≤ length (now text)) × (first ≤ from + 1) ⌝ }
-    ensures { λ r. ⌜ r ≡ rowsBad (callGood (fieldsIn (now (header .entry)))) true first 0 (linesOf (drop from (now (text .entry)))) ⌝ }
-{
-    let mut at = from;
-    let mut line = first;
-    while at < text.len() {
-        let end = text::line_end(text, at);
-        if text.len() <= end {
-            return line;
-        }
-        if !is_call(header, text::line_at(text, at)) {
-            return line;
-        }
-        at = end + 1;
-        line += 1;
-    }
-    0
-}
-
-// The first bad line of the block of entities at a place, or 0.
-fn entity_block(text: &[u8], p: Place) -> usize
+// The first bad line of a block at a place, or 0: its names, which stand there or do not, and then its rows.
+fn block_bad(text: &[u8], block: Block, named: bool, p: Place) -> usize
     requires { ⌜ (p .at ≤ length (now text)) × (p .line ≤ p .at + 1) ⌝ }
-    ensures { λ r. ⌜ r ≡ blockBad entityNames entityGood false (now (text .entry)) p ⌝ }
+    ensures { λ r. ⌜ r ≡ blockBad block named (now (text .entry)) p ⌝ }
 {
     let at = p.at;
     let end = text::line_end(text, at);
     if text.len() <= end {
         return p.line;
     }
-    let header = text::line_at(text, at);
-    if !rows::is_entity_header(header) {
+    if !named {
         return p.line;
     }
-    entity_rows(text, header, end + 1, p.line + 1)
-}
-
-// The first bad line of the block of groups at a place, or 0.
-fn group_block(text: &[u8], p: Place) -> usize
-    requires { ⌜ (p .at ≤ length (now text)) × (p .line ≤ p .at + 1) ⌝ }
-    ensures { λ r. ⌜ r ≡ blockBad groupNames groupGood false (now (text .entry)) p ⌝ }
-{
-    let at = p.at;
-    let end = text::line_end(text, at);
-    if text.len() <= end {
-        return p.line;
-    }
-    if !rows::is_group_header(text::line_at(text, at)) {
-        return p.line;
-    }
-    group_rows(text, end + 1, p.line + 1)
-}
-
-// The first bad line of the block of calls at a place, or 0.
-fn call_block(text: &[u8], p: Place) -> usize
-    requires { ⌜ (p .at ≤ length (now text)) × (p .line ≤ p .at + 1) ⌝ }
-    ensures { λ r. ⌜ r ≡ blockBad callNames callGood true (now (text .entry)) p ⌝ }
-{
-    let at = p.at;
-    let end = text::line_end(text, at);
-    if text.len() <= end {
-        return p.line;
-    }
-    let header = text::line_at(text, at);
-    if !rows::is_call_header(header) {
-        return p.line;
-    }
-    call_rows(text, header, end + 1, p.line + 1)
+    rows_bad(text, block, end + 1, p.line + 1)
 }
 
 fn entities_at() -> Place
@@ -245,25 +195,66 @@ fn calls_place(text: &[u8]) -> Place
     past_empty(text, groups_at(text))
 }
 
+fn entities_bad(text: &[u8], p: Place) -> usize
+    requires { ⌜ (p .at ≤ length (now text)) × (p .line ≤ p .at + 1) ⌝ }
+    ensures { λ r. ⌜ r ≡ entitiesBad (now (text .entry)) p ⌝ }
+{
+    let at = p.at;
+    let names = text::line_at(text, at);
+    block_bad(
+        text,
+        Block::Entities(rows::entity_columns(names)),
+        rows::is_entity_header(names),
+        p,
+    )
+}
+
+fn groups_bad(text: &[u8], p: Place) -> usize
+    requires { ⌜ (p .at ≤ length (now text)) × (p .line ≤ p .at + 1) ⌝ }
+    ensures { λ r. ⌜ r ≡ groupsBad (now (text .entry)) p ⌝ }
+{
+    let at = p.at;
+    block_bad(
+        text,
+        Block::Groups,
+        rows::is_group_header(text::line_at(text, at)),
+        p,
+    )
+}
+
+fn calls_bad(text: &[u8], p: Place) -> usize
+    requires { ⌜ (p .at ≤ length (now text)) × (p .line ≤ p .at + 1) ⌝ }
+    ensures { λ r. ⌜ r ≡ callsBad (now (text .entry)) p ⌝ }
+{
+    let at = p.at;
+    let names = text::line_at(text, at);
+    block_bad(
+        text,
+        Block::Calls(callrows::call_columns(names)),
+        callrows::is_call_header(names),
+        p,
+    )
+}
+
 // The first bad line of a text, or 0.
 fn bad_line(text: &[u8]) -> usize
     ensures { λ r. ⌜ r ≡ badLine (now (text .entry)) ⌝ }
 {
-    let entities = entity_block(text, entities_at());
+    let entities = entities_bad(text, entities_at());
     if entities != 0 {
         return entities;
     }
-    let groups = group_block(text, groups_at(text));
+    let groups = groups_bad(text, groups_at(text));
     if groups != 0 {
         return groups;
     }
-    call_block(text, calls_place(text))
+    calls_bad(text, calls_place(text))
 }
 
 // The entities of the rows at a place, put into a table one after the other.
-fn fill_rows(text: &[u8], header: &[u8], from: usize) -> Entities
+fn fill_rows(text: &[u8], columns: EntityColumns, from: usize) -> Filled
     requires { ⌜ (from ≤ length (now text)) × (length (now text) ≤ 65535) ⌝ }
-    ensures { λ r. ⌜ r ≡ fill (fieldsIn (now (header .entry))) 2 emptyTable (linesOf (drop from (now (text .entry)))) ⌝ }
+    ensures { λ r. ⌜ r ≡ fill columns 2 emptyTable (linesOf (drop from (now (text .entry)))) ⌝ }
 {
     let mut table = Table::empty();
     let mut at = from;
@@ -271,22 +262,22 @@ fn fill_rows(text: &[u8], header: &[u8], from: usize) -> Entities
     loop {
         let end = text::line_end(text, at);
         if text.len() <= end {
-            return Entities {
+            return Filled {
                 twice: 0,
                 table: table,
             };
         }
-        let row = rows::entity_row(header, text::line_at(text, at));
+        let row = rows::entity_row(columns, text::line_at(text, at));
         let placed = row.placed;
         let Placed::At(slot, e) = placed else {
-            return Entities {
+            return Filled {
                 twice: 0,
                 table: table,
             };
         };
         let was = table.entity(slot);
         if !was.is_free() {
-            return Entities {
+            return Filled {
                 twice: line,
                 table: table,
             };
@@ -299,12 +290,12 @@ fn fill_rows(text: &[u8], header: &[u8], from: usize) -> Entities
 }
 
 // The entities of a text.
-fn entities_in(text: &[u8]) -> Entities
+fn entities_in(text: &[u8]) -> Filled
     requires { ⌜ length (now text) ≤ 65535 ⌝ }
     ensures { λ r. ⌜ r ≡ entitiesIn (now (text .entry)) ⌝ }
 {
     let from = text::next_line(text, 0);
-    fill_rows(text, text::line_at(text, 0), from)
+    fill_rows(text, rows::entity_columns(text::line_at(text, 0)), from)
 }
 
 fn no_groups() -> [Label; 8]
@@ -315,7 +306,7 @@ fn no_groups() -> [Label; 8]
 }
 
 // The groups of the rows at a place.
-fn group_sets(text: &[u8], from: usize) -> Groups
+fn group_sets(text: &[u8], from: usize) -> GroupSets
     requires { ⌜ from ≤ length (now text) ⌝ }
     ensures { λ r. ⌜ r ≡ grouped (groupsFrom [] (linesOf (drop from (now (text .entry))))) ⌝ }
 {
@@ -325,20 +316,20 @@ fn group_sets(text: &[u8], from: usize) -> Groups
     loop {
         let end = text::line_end(text, at);
         if text.len() <= end {
-            return Groups {
+            return GroupSets {
                 sets: sets,
                 count: count,
             };
         }
         let set = text::hex_set(text::line_at(text, at));
         let Tags::Set(l) = set else {
-            return Groups {
+            return GroupSets {
                 sets: sets,
                 count: count,
             };
         };
         if 8 <= count {
-            return Groups {
+            return GroupSets {
                 sets: sets,
                 count: count,
             };
@@ -350,7 +341,7 @@ fn group_sets(text: &[u8], from: usize) -> Groups
 }
 
 // The groups of a text.
-fn groups_in(text: &[u8]) -> Groups
+fn groups_in(text: &[u8]) -> GroupSets
     ensures { λ r. ⌜ r ≡ groupsIn (now (text .entry)) ⌝ }
 {
     let p = groups_at(text);
@@ -359,7 +350,7 @@ fn groups_in(text: &[u8]) -> Groups
     group_sets(text, from)
 }
 
-fn with_groups(table: Table, g: Groups) -> Table
+fn with_groups(table: Table, g: GroupSets) -> Table
     ensures { λ r. ⌜ r ≡ withGroups table g ⌝ }
 {
     let mut t = table;
@@ -370,9 +361,9 @@ fn with_groups(table: Table, g: Groups) -> Table
 }
 
 // The first row at a place whose entity breaks a group of a table, or 0.
-fn breaking_row(text: &[u8], header: &[u8], from: usize, table: Table) -> usize
+fn breaking_row(text: &[u8], columns: EntityColumns, from: usize, table: Table) -> usize
     requires { ⌜ (from ≤ length (now text)) × (length (now text) ≤ 65535) ⌝ }
-    ensures { λ r. ⌜ r ≡ breaking (fieldsIn (now (header .entry))) (groupsOf table) 2 (linesOf (drop from (now (text .entry)))) ⌝ }
+    ensures { λ r. ⌜ r ≡ breaking columns (groupsOf table) 2 (linesOf (drop from (now (text .entry)))) ⌝ }
 {
     let mut at = from;
     let mut line: usize = 2;
@@ -381,7 +372,7 @@ fn breaking_row(text: &[u8], header: &[u8], from: usize, table: Table) -> usize
         if text.len() <= end {
             return 0;
         }
-        let row = rows::entity_row(header, text::line_at(text, at));
+        let row = rows::entity_row(columns, text::line_at(text, at));
         let placed = row.placed;
         let Placed::At(slot, e) = placed else {
             return 0;
@@ -400,7 +391,12 @@ fn breaking_line(text: &[u8], table: Table) -> usize
     ensures { λ r. ⌜ r ≡ breakingIn (now (text .entry)) table ⌝ }
 {
     let from = text::next_line(text, 0);
-    breaking_row(text, text::line_at(text, 0), from, table)
+    breaking_row(
+        text,
+        rows::entity_columns(text::line_at(text, 0)),
+        from,
+        table,
+    )
 }
 
 fn refused(number: u8, line: usize) -> Loaded
@@ -449,9 +445,29 @@ pub fn calls_at(text: &[u8]) -> usize
     p.at
 }
 
-// The call of the line at a place, under the names at another.
-pub fn call_at(text: &[u8], names: usize, at: usize) -> CallRow
-    ensures { λ r. ⌜ r ≡ callAt (now (text .entry)) names at ⌝ }
+// The columns of the calls of a text.
+pub fn call_columns(text: &[u8]) -> CallColumns
+    ensures { λ r. ⌜ r ≡ callColumnsIn (now (text .entry)) ⌝ }
 {
-    rows::call_row(text::line_at(text, names), text::line_at(text, at))
+    callrows::call_columns(text::line_at(text, calls_at(text)))
+}
+
+// The number that a verdict returns; 0 where the text is accepted.
+pub fn verdict_number(v: Verdict) -> u8
+    ensures { λ r. ⌜ r ≡ verdictNumber v ⌝ }
+{
+    match v {
+        Verdict::Accepted => 0,
+        Verdict::Refused(n, l) => n,
+    }
+}
+
+// The line that a verdict returns; 0 where the text is accepted.
+pub fn verdict_line(v: Verdict) -> usize
+    ensures { λ r. ⌜ r ≡ verdictLine v ⌝ }
+{
+    match v {
+        Verdict::Accepted => 0,
+        Verdict::Refused(n, l) => l,
+    }
 }

@@ -28,7 +28,7 @@ use Rattle.monitor.specs.Table.{entityAt, wellPlaced, placeFormed, forme
 abbrev pub seen : Table → ℕ → Slot words
 seen t i = slotOf (entityAt t i) (blockAt (t .content) i)
 
-entity-in : (t : Table) (i : ℕ) → i < 32 → entityAt t i ≡ getD (t .entities) i freeEntity
+pub entity-in : (t : Table) (i : ℕ) → i < 32 → entityAt t i ≡ getD (t .entities) i freeEntity
 unfolding entityAt
 entity-in t i l = rw (lt-ltb i 32 l)
 
@@ -51,11 +51,11 @@ module _ (t : Table) (f : formed t ≡ true) where
   unfolding formed
   bytes-length = eqb-true _ _ (and-right (eqb (length (t .entities)) 32) _ (and-left (eqb (length (t .entities)) 32 && eqb (length (t .content)) 2048) _ f))
 
-  rest : leb (t .count) 8 && allBelow 32 (placeFormed t) ≡ true
+  pub rest : leb (t .count) 8 && allBelow 32 (placeFormed t) ≡ true
   unfolding formed
   rest = and-right (eqb (length (t .entities)) 32 && eqb (length (t .content)) 2048) _ f
 
-  place : (i : ℕ) → placeFormed t i ≡ true
+  pub place : (i : ℕ) → placeFormed t i ≡ true
   unfolding placeFormed entityAt noBlock
   place i = either (ltb i 32) (λ e. all-at 32 (placeFormed t) (and-right (leb (t .count) 8) _ rest) i (ltb-true i 32 e))
       (λ e. rw (e, block-out (t .content) i (ltb-false i 32 e), words-order .same-refl _) (zero-drop 0 64))
@@ -95,14 +95,14 @@ module _ (t : Table) (k : ℕ) (e : Entity) (b : List ℕ) (f : formed t ≡ tru
   unfolding withSlot
   new = rw (lt-ltb k 32 h)
 
-  new-entity : (i : ℕ) → i < 32 → getD (withSlot t k e b .entities) i freeEntity ≡ cond (eqb i k) e (getD (t .entities) i freeEntity)
+  pub new-entity : (i : ℕ) → i < 32 → getD (withSlot t k e b .entities) i freeEntity ≡ cond (eqb i k) e (getD (t .entities) i freeEntity)
   new-entity i l = rw new (go (eqb i k) refl)
     where
       go : (y : Bool) → eqb i k ≡ y → getD (set (t .entities) k e) i freeEntity ≡ cond y e (getD (t .entities) i freeEntity)
       go true q = rw (eqb-true i k q) (getD-set-same (t .entities) k e freeEntity (omega (arith, slots-length t f)))
       go false q = getD-set-other (t .entities) k i e freeEntity (eqb-false i k q)
 
-  new-block : (i : ℕ) → blockAt (withSlot t k e b .content) i ≡ cond (eqb i k) b (blockAt (t .content) i)
+  pub new-block : (i : ℕ) → blockAt (withSlot t k e b .content) i ≡ cond (eqb i k) b (blockAt (t .content) i)
   new-block i = rw new (go (eqb i k) refl)
     where
       go : (y : Bool) → eqb i k ≡ y → blockAt (withBlock (t .content) k b) i ≡ cond y b (blockAt (t .content) i)

@@ -1,18 +1,21 @@
--- One step and the end of what is printed, and a line stored piece by piece.
+-- Bytes written one after another make a line; digits.
 -- Assumes nothing.
 use mathlib.Core.Path.{_≡_, refl, sym, ap, ap₂, _∙_}
-use mathlib.Core.List.{List, [], _∷_, _++_}
+use mathlib.Core.List.{List, [], _∷_, _++_, append-nil, append-assoc}
+use mathlib.Core.Logic.{_⊎_, inl, inr}
 use Prim.Native.Nat.{ℕ, zero, suc, _+_, _*_, _-_, _/_, _%_, _^_, _≤_, _<_}
 use native.Mathlib.Numerals.{add-one}
 use native.Mathlib.Nat.{pow-suc}
-use mathlib.Core.Logic.{_⊎_, inl, inr}
 use native.Mathlib.Omega.{arith}
-use lib.ListN.{length, getD, drop, set, drop-of-length-le, length-append, length-set, take, length-drop, length-replicate}
-use lib.Seq.{drop-cons, sets, sets-eq, getD-set-same, drop-set-lt, take-all}
-use lib.Dec.{eqb, leb}
-use borrow.Author.Tests.{eq-eqb, ne-eqb, le-leb, lt-ltb, le-ltb}
-use mathlib.Core.Bool.{Bool, true, false, cond}
-use Rattle.print.specs.Lines.{digitText, hexText, dataText, callLine, printed, printedLength, decimalOnto, decimalText, refusedLine, noLine, short, recordLine, refusedText, refusedAudit}
+use mathlib.Core.Bool.{true}
+use lib.Dec.{leb}
+use lib.ListN.{length, getD, take, drop, set, drop-of-length-le, length-append, length-set, length-drop, length-replicate}
+use lib.Seq.{sets, sets-eq, drop-cons, drop-drop, getD-set-same, drop-set-lt, take-all, take-append-seam}
+use borrow.Author.Tests.{lt-ltb, le-ltb, le-leb}
+use Rattle.print.specs.declared.Line.{Line}
+use Rattle.print.specs.Lines.{digitText, hexText, dataText, callLine, decimalOnto, blank, asLine, written, writtenTo}
+
+-- ---- hexadecimal
 
 pub hex-end : (out src : List ℕ) (k i : ℕ) → length src ≤ i → sets out k (hexText (drop i src)) ≡ out
 unfolding hexText
@@ -46,69 +49,15 @@ unfolding dataText
 data-some [] h = absurd (h refl)
 data-some (b ∷ bs) h = refl
 
--- the line, stored piece by piece
-module _ (entry shown out : List ℕ) (n : ℕ) (e : n ≡ length entry * 2) where
-  first-part : sets out 0 (callLine entry shown) ≡ sets (set (sets out 0 (hexText entry)) n 32) (suc n) (dataText shown ++ (10 ∷ []))
-  unfolding callLine
-  first-part =
-      let k : 0 + length (hexText entry) ≡ n = omega (arith, length-hex entry) in
-      sets-append out 0 (hexText entry) (32 ∷ (dataText shown ++ (10 ∷ []))) ∙ rw k
+pub data-most : (s : List ℕ) → length s ≤ 64 → length (dataText s) ≤ 128
+unfolding dataText
+data-most [] h = omega arith
+data-most (b ∷ bs) h = omega (arith, length-hex (b ∷ bs))
 
-  pub line-empty : length shown ≡ 0 → sets out 0 (callLine entry shown) ≡ set (set (set (sets out 0 (hexText entry)) n 32) (n + 1) 45) (n + 2) 10
-  line-empty h =
-      let f : n + 2 ≡ suc (suc n) = omega arith in
-      first-part ∙ rw (data-empty shown h, add-one n, f)
-
-  pub line-some : (length shown ≡ 0 → ⊥) → (m : ℕ) → m ≡ n + 1 + length shown * 2 → sets out 0 (callLine entry shown) ≡ set (sets (set (sets out 0 (hexText entry)) n 32) (n + 1) (hexText shown)) m 10
-  line-some h m f =
-      let k : suc n + length (hexText shown) ≡ m = omega (arith, length-hex shown) in
-      first-part ∙ rw (data-some shown h) (sets-append _ (suc n) (hexText shown) (10 ∷ []) ∙ rw (k, add-one n))
-
-  length-line : length (callLine entry shown) ≡ n + 2 + length (dataText shown)
-  unfolding callLine
-  length-line =
-      omega (arith, length-append (hexText entry) (32 ∷ (dataText shown ++ (10 ∷ []))), length-append (dataText shown) (10 ∷ []), length-hex entry)
-
-  pub count-empty : length shown ≡ 0 → length (callLine entry shown) ≡ n + 3
-  count-empty h = omega (arith, length-line, ap length (data-empty shown h))
-
-  pub count-some : (length shown ≡ 0 → ⊥) → length (callLine entry shown) ≡ n + 1 + length shown * 2 + 1
-  count-some h = omega (arith, length-line, ap length (data-some shown h), length-hex shown)
-
--- how long a line is
-pub line-length : (entry shown : List ℕ) → length (callLine entry shown) ≡ length entry * 2 + length shown * 2 + cond (eqb (length shown) 0) 3 2
-line-length entry [] = omega (arith, count-empty entry [] [] (length entry * 2) refl refl)
-line-length entry (b ∷ bs) =
-    let z : eqb (length (b ∷ bs)) 0 ≡ false = ne-eqb (length (b ∷ bs)) 0 (λ q. omega arith) in
-    rw z (omega (arith, count-some entry (b ∷ bs) [] (length entry * 2) refl (λ q. omega arith)))
-
--- a line at the front
-pub front : (l out : List ℕ) → length l ≤ length out → sets out 0 l ≡ l ++ drop (length l) out
-front l out h = let e : 0 + length l ≡ length l = omega arith in sets-eq l out 0 (omega arith) ∙ rw e
-
-module _ (l out : List ℕ) where
-  pub print-fits : length l ≤ length out → sets out 0 l ≡ printed l out
-  print-fits h = front l out h ∙ rw (le-leb _ _ h)
-
-  pub print-not : leb (length l) (length out) ≡ false → out ≡ printed l out
-  print-not e = rw e
-
-  pub length-fits : length l ≤ length out → length l ≡ printedLength l out
-  length-fits h = rw (le-leb _ _ h)
-
-  pub length-not : leb (length l) (length out) ≡ false → 0 ≡ printedLength l out
-  length-not e = rw e
-
--- what there is room for
-pub need-some : (e s room : ℕ) → e * 2 + s * 2 + cond (eqb s 0) 3 2 ≤ room → e * 2 + s * 2 + 2 ≤ room
-need-some e s room h = go (eqb s 0) h
-  where
-    go : (b : Bool) → e * 2 + s * 2 + cond b 3 2 ≤ room → e * 2 + s * 2 + 2 ≤ room
-    go true k = omega arith
-    go false k = k
-
-pub need-empty : (e s room : ℕ) → s ≡ 0 → e * 2 + s * 2 + cond (eqb s 0) 3 2 ≤ room → e * 2 + 3 ≤ room
-need-empty e s room z h = let k : e * 2 + s * 2 + 3 ≤ room = rw (eq-eqb s 0 z) at h in omega arith
+pub line-most : (entry shown : List ℕ) → length entry ≡ 16 → length shown ≤ 64 → length (callLine entry shown) ≤ 162
+unfolding callLine
+line-most entry shown e h =
+    omega (arith, length-append (hexText entry) (32 ∷ (dataText shown ++ (10 ∷ []))), length-append (dataText shown) (10 ∷ []), length-hex entry, data-most shown h)
 
 -- ---- decimal numbers
 
@@ -145,74 +94,54 @@ pub drop-here : (l : List ℕ) (i d : ℕ) → i < length l → drop i (set l i 
 drop-here l i d h =
     drop-cons (set l i d) i 0 (rw length-set h) ∙ ap₂ (λ (x : ℕ) (xs : List ℕ). x ∷ xs) (getD-set-same l i d 0 h) (drop-set-lt (suc i) l i d (omega arith) ∙ ap (λ (n : ℕ). drop n l) (sym (add-one i)))
 
--- ---- bytes one by one
-
-pub bytes-end : (out src : List ℕ) (k i : ℕ) → length src ≤ i → sets out k (drop i src) ≡ out
-bytes-end out src k i h = rw (drop-of-length-le src h)
-
-pub bytes-step : (out src : List ℕ) (k i : ℕ) → i < length src → sets out k (drop i src) ≡ sets (set out k (getD src i 0)) (k + 1) (drop (i + 1) src)
-bytes-step out src k i h = rw (drop-cons src i 0 h, add-one i, add-one k)
-
--- ---- the line of a refused text
-
 pub digits-part : (bytes : List ℕ) (from : ℕ) → length bytes ≡ 20 → take (20 - from) (drop from bytes) ≡ drop from bytes
 digits-part bytes from h = take-all (20 - from) (drop from bytes) (omega (arith, length-drop from bytes))
 
-abbrev lineText : List ℕ
-lineText = 32 ∷ 108 ∷ 105 ∷ 110 ∷ 101 ∷ 32 ∷ []
+-- ---- a copy into a part of a buffer
 
-module _ (n l : ℕ) (a b c d : ℕ) (ea : a ≡ 0 + 8) (eb : b ≡ a + length (decimalText n)) (ec : c ≡ b + 6) (ed : d ≡ c + length (decimalText l)) where
-  pub refused-length : d + 1 ≡ length (refusedLine n l)
-  unfolding refusedLine
-  refused-length =
-      omega (
-        arith,
-        length-append (decimalText n) (lineText ++ (decimalText l ++ (10 ∷ []))),
-        length-append (decimalText l) (10 ∷ []),
-      )
+pub copied : (s d : List ℕ) (at : ℕ) → at + length s ≤ length d → (ys : List ℕ) → ys ≡ take (length s) s ++ drop (length s) (take (length d - at) (drop at d))
+    → take at d ++ (ys ++ drop (length d - at) (drop at d)) ≡ sets d at s
+copied s d at h ys q =
+    let t : take (length d - at) (drop at d) ≡ drop at d = take-all (length d - at) (drop at d) (simp length-drop (omega arith)) in
+    let z : drop (length d - at) (drop at d) ≡ [] = drop-of-length-le (drop at d) {i = length d - at} (simp length-drop (omega arith)) in
+    ap (λ (x : List ℕ). take at d ++ x)
+    (ap (λ (x : List ℕ). ys ++ x) z ∙ append-nil ys ∙ q ∙ ap₂ (λ (x y : List ℕ). x ++ drop (length s) y) (take-all (length s) s (omega arith)) t ∙ ap (λ (x : List ℕ). s ++ x) (drop-drop (length s) at d))
+    ∙ sym (append-assoc (take at d) s (drop (at + length s) d))
+    ∙ sym (sets-eq s d at h)
 
-  pub refused-stored : (out : List ℕ) → sets (sets (sets (sets (sets out 0 refusedText) a (decimalText n)) b lineText) c (decimalText l)) d (10 ∷ []) ≡ sets out 0 (refusedLine n l)
-  unfolding refusedLine
-  refused-stored out = sym
-      (sets-append out 0 refusedText (decimalText n ++ (lineText ++ (decimalText l ++ (10 ∷ []))))
-      ∙ ap (λ (k : ℕ). sets (sets out 0 refusedText) k (decimalText n ++ (lineText ++ (decimalText l ++ (10 ∷ []))))) (sym ea)
-      ∙ sets-append (sets out 0 refusedText) a (decimalText n) (lineText ++ (decimalText l ++ (10 ∷ [])))
-      ∙ ap (λ (k : ℕ). sets (sets (sets out 0 refusedText) a (decimalText n)) k (lineText ++ (decimalText l ++ (10 ∷ [])))) (sym eb)
-      ∙ sets-append (sets (sets out 0 refusedText) a (decimalText n)) b lineText (decimalText l ++ (10 ∷ []))
-      ∙ ap (λ (k : ℕ). sets (sets (sets (sets out 0 refusedText) a (decimalText n)) b lineText) k (decimalText l ++ (10 ∷ []))) (sym ec)
-      ∙ sets-append (sets (sets (sets out 0 refusedText) a (decimalText n)) b lineText) c (decimalText l) (10 ∷ [])
-      ∙ ap (λ (k : ℕ). sets (sets (sets (sets (sets out 0 refusedText) a (decimalText n)) b lineText) c (decimalText l)) k (10 ∷ [])) (sym ed))
+-- ---- a line written piece by piece
 
--- ---- the lines of an audit
+pub length-blank : length blank ≡ 162
+unfolding blank
+length-blank = length-replicate {A = ℕ} 162 0
 
-module _ (entry : List ℕ) (e : length entry ≡ 16) where
-  pub record-length : 33 ≡ length (recordLine entry)
-  unfolding recordLine
-  record-length = omega (arith, length-append (hexText entry) (10 ∷ []), length-hex entry, e)
+-- what is left to write, from index k on, makes the whole line
+pub record Left (whole out : List ℕ) (k : ℕ) (rest : List ℕ) : Type 0 where
+  pub is : sets out k rest ≡ sets blank 0 whole
+  pub len : k + length rest ≡ length whole
 
-  pub record-stored : (out : List ℕ) → set (sets out 0 (hexText entry)) 32 10 ≡ sets out 0 (recordLine entry)
-  unfolding recordLine
-  record-stored out =
-      let k : 32 ≡ 0 + length (hexText entry) = omega (arith, length-hex entry, e) in
-      ap (λ (i : ℕ). sets (sets out 0 (hexText entry)) i (10 ∷ [])) k ∙ sym (sets-append out 0 (hexText entry) (10 ∷ []))
+pub left-start : (whole out : List ℕ) → out ≡ blank → Left whole out 0 whole
+left-start whole out e = record { is = ap (λ (x : List ℕ). sets x 0 whole) e; len = omega arith }
 
-module _ (n a b : ℕ) (ea : a ≡ 0 + 8) (eb : b ≡ a + length (decimalText n)) where
-  pub by-length : b + 1 ≡ length (refusedAudit n)
-  unfolding refusedAudit
-  by-length = omega (arith, ea, eb, length-append (decimalText n) (10 ∷ []))
+pub left-more : {whole out : List ℕ} {k : ℕ} (x rest : List ℕ) → Left whole out k (x ++ rest) → {out′ : List ℕ} {k′ : ℕ} → out′ ≡ sets out k x → k′ ≡ k + length x → Left whole out′ k′ rest
+left-more {whole} {out} {k} x rest l p q = record {
+  is = ap₂ (λ (o : List ℕ) (i : ℕ). sets o i rest) p q ∙ sym (sets-append out k x rest) ∙ l .is;
+  len = omega (arith, l .len, length-append x rest);
+}
 
-  pub by-stored : (out : List ℕ) → sets (sets (sets out 0 refusedText) a (decimalText n)) b (10 ∷ []) ≡ sets out 0 (refusedAudit n)
-  unfolding refusedAudit
-  by-stored out = sym
-      (sets-append out 0 refusedText (decimalText n ++ (10 ∷ []))
-      ∙ ap (λ (k : ℕ). sets (sets out 0 refusedText) k (decimalText n ++ (10 ∷ []))) (sym ea)
-      ∙ sets-append (sets out 0 refusedText) a (decimalText n) (10 ∷ [])
-      ∙ ap (λ (k : ℕ). sets (sets (sets out 0 refusedText) a (decimalText n)) k (10 ∷ [])) (sym eb))
+pub left-end : {whole out : List ℕ} {k : ℕ} → Left whole out k [] → length whole ≤ 162 → _≡_ {A = Line} (record { bytes = out; len = k }) (asLine whole)
+unfolding asLine
+left-end {whole} {out} {k} l h =
+    let n : 0 + length whole ≡ length whole = omega arith in
+    let e : out ≡ whole ++ drop (length whole) blank = l .is ∙ sets-eq whole blank 0 (omega (arith, length-blank)) ∙ ap (λ (i : ℕ). whole ++ drop i blank) n in
+    let f : k ≡ length whole = omega (arith, l .len) in
+    λ i. record { bytes = e i; len = f i }
 
-pub length-none : length noLine ≡ 64
-unfolding noLine
-length-none = length-replicate {A = ℕ} 64 0
-
-pub short-is : (l out : List ℕ) (k : ℕ) → out ≡ sets noLine 0 l → k ≡ length l → length l ≤ 64 → record { bytes = out; len = k } ≡ short l
-unfolding short
-short-is l out k e f h = ap₂ (λ (x : List ℕ) (y : ℕ). record { bytes = x; len = y }) (e ∙ front l noLine (omega (arith, length-none))) f
+-- a line behind the first n bytes of a buffer, where it has room
+pub line-appended : (x : Line) (l out : List ℕ) (n : ℕ) → x ≡ asLine l → n + length l ≤ length out
+    → (written out n (take (x .len) (x .bytes)) ≡ sets out n l) × (writtenTo out n (take (x .len) (x .bytes)) ≡ n + length l)
+unfolding asLine
+line-appended x l out n e h =
+    let q : take (x .len) (x .bytes) ≡ l = ap (λ (y : Line). take (y .len) (y .bytes)) e ∙ take-append-seam l (drop (length l) blank) in
+    let b : leb (n + length l) (length out) ≡ true = le-leb (n + length l) (length out) h in
+    (ap (written out n) q ∙ rw b refl, ap (writtenTo out n) q ∙ rw b refl)

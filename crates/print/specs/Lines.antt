@@ -4,7 +4,8 @@ use Prim.Native.Nat.{ℕ, zero, suc, _+_, _/_, _%_}
 use mathlib.Core.Bool.{cond}
 use mathlib.Core.List.{List, [], _∷_, _++_}
 use lib.ListN.{length, drop, replicate}
-use Rattle.print.specs.declared.Short.{Short}
+use lib.Seq.{sets}
+use Rattle.print.specs.declared.Line.{Line}
 use lib.Dec.{ltb, leb}
 
 -- the lower-case digit of a number below 16
@@ -52,17 +53,21 @@ recordLine entry = hexText entry ++ (10 ∷ [])
 unfoldable pub refusedAudit : ℕ → List ℕ
 refusedAudit n = refusedText ++ (decimalText n ++ (10 ∷ []))
 
--- ---- a line at the front of a lent buffer, if there is room for it
+-- ---- what the functions answer
 
-abbrev pub printed : List ℕ → List ℕ → List ℕ
-printed l out = cond (leb (length l) (length out)) (l ++ drop (length l) out) out
+-- a line in 162 bytes, which a record and 64 bytes shown take, zeros after it
+abbrev pub lineSize : ℕ
+lineSize = 162
 
-abbrev pub printedLength : List ℕ → List ℕ → ℕ
-printedLength l out = cond (leb (length l) (length out)) (length l) 0
+unfoldable pub blank : List ℕ
+blank = replicate lineSize 0
 
--- a short line in a buffer of 64 bytes, zeros after it
-unfoldable pub noLine : List ℕ
-noLine = replicate 64 0
+unfoldable pub asLine : List ℕ → Line
+asLine l = record { bytes = l ++ drop (length l) blank; len = length l }
 
-unfoldable pub short : List ℕ → Short
-short l = record { bytes = l ++ drop (length l) noLine; len = length l }
+-- a buffer with bytes behind its first n, and where they end; without room, the buffer as it is, and n
+abbrev pub written : List ℕ → ℕ → List ℕ → List ℕ
+written out n l = cond (leb (n + length l) (length out)) (sets out n l) out
+
+abbrev pub writtenTo : List ℕ → ℕ → List ℕ → ℕ
+writtenTo out n l = cond (leb (n + length l) (length out)) (n + length l) n

@@ -1,4 +1,3 @@
 pub mod Record
 pub mod Reader
 pub mod Shown
-pub mod Append

@@ -1,4 +1,2 @@
 pub mod Calls
-pub mod Fit
 pub mod Round
-pub mod Listing

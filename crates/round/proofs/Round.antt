@@ -1,47 +1,111 @@
--- The lines of a round are those of the run of its calls.
+-- What is made of a text's calls is what the rules' run of them gives.
 -- Assumes nothing.
-use mathlib.Core.Path.{_≡_, refl, sym, ap, ap₂, _∙_}
+use mathlib.Core.Path.{_≡_, refl, sym, ap, ap₂, subst, _∙_}
 use mathlib.Core.Bool.{Bool, true, false, cond, _&&_}
-use mathlib.Core.List.{List, [], _∷_}
+use mathlib.Core.List.{List, [], _∷_, _++_, append-nil}
 use mathlib.Core.Option.{Option, none, some}
-use Prim.Native.Nat.{ℕ, zero, suc, _+_, _≤_, _<_}
+use Prim.Native.Nat.{ℕ, zero, suc, _+_, _*_, _-_, _≤_, _<_}
+use native.Mathlib.Nat.{suc-mul}
 use native.Mathlib.Omega.{arith}
 use lib.Dec.{eqb, ltb}
-use lib.ListN.{length, drop}
-use lib.Seq.{take-append-seam}
-use borrow.Author.Tests.{eqb-false, ltb-true, ltb-false, lt-ltb, le-ltb}
+use lib.ListN.{length, drop, length-take}
+use borrow.Author.Tests.{eqb-true, eqb-false, ltb-true, ltb-false, lt-ltb, le-ltb}
 use Rattle.rules.specs.Calls.{Call}
 use Rattle.rules.specs.Refusals.{step}
-use Rattle.rules.specs.Record.{answer}
 use Rattle.rules.specs.Runs.{final, trace}
+use Rattle.rules.proofs.Facts.{and-left}
 use Rattle.label.specs.Words.{words}
 use Rattle.monitor.specs.declared.Table.{Table}
 use Rattle.monitor.specs.Table.{hub}
-use Rattle.text.specs.Lines.{Lines, done, line, linesOf, lineEnd, lineAt, nextLine, fieldsIn, namesOnce}
+use Rattle.text.specs.Bytes.{indexOf}
+use Rattle.text.specs.Lines.{Lines, line, linesOf, lineEnd, lineAt, ahead, fieldsIn, fieldAt}
 use Rattle.text.proofs.Laws.{line-ends, line-here, lines-end, next-whole, next-later}
-use Rattle.rows.specs.Calls.{CallSaid, callIn, callOf, asCallRow}
-use Rattle.rows.specs.Names.{callNames}
-use Rattle.rows.specs.declared.CallRow.{CallRow}
+use Rattle.callrows.specs.Calls.{CallSaid, callNamed, usesOf, numberRead, valueIn, fits, fieldsFit, callFrom, callBy, callIn, callOf, asCallRow}
+use Rattle.callrows.specs.declared.CallColumns.{CallColumns}
+use Rattle.callrows.specs.declared.CallRead.{CallRead}
+use Rattle.callrows.specs.declared.CallRead.the-variants as CallRead
+use Rattle.callrows.specs.declared.CallRow.{CallRow}
 use Rattle.load.specs.declared.Place.{Place}
-use Rattle.load.specs.Blocks.{start, pastEmpty, groupsAt, callsAt, namesAt, rowsAt, rowsBad, blockBad, isSome, callGood, orElse, badLine}
+use Rattle.load.specs.Blocks.{start, pastEmpty, groupsAt, callsAt, rowsAt, isSome, rowGood, rowsBad, blockBad, callsBad, orElse, badLine}
+use Rattle.load.specs.declared.Block.{Block}
+use Rattle.load.specs.declared.Block.the-variants as Block
 use Rattle.load.specs.declared.Verdict.{Verdict}
 use Rattle.load.specs.declared.Verdict.the-variants.{Accepted, Refused}
 use Rattle.load.specs.Load.{verdictOf, loadOf}
+use Rattle.load.specs.CallsIn.{callsFrom, callColumnsIn, callsOf, callAt}
 use Rattle.load.proofs.Accepted.{bad-none}
-use Rattle.load.specs.CallsIn.{callsFrom, callsOf, callAt}
-use Rattle.load.proofs.Laws.{rows-cut, last-bad, last-step}
+use Rattle.load.proofs.Laws.{rows-cut, rows-bad, rows-step}
+use Rattle.print.specs.Chunks.{Bounded, onto, chunkFrom, chunk, ChunksAdvance}
+use Rattle.print.proofs.Chunks.{goes-room, one-taken, none-taken, none-joined, no-piece, chunk-then, chunks-join, chunks-advance}
+use Rattle.round.specs.declared.Form.{Form}
+use Rattle.round.specs.declared.Form.the-variants as Form
 use Rattle.round.specs.Played.{played}
-use Rattle.round.specs.declared.Step.{Step}
-use Rattle.round.specs.Round.{playedLine, blankLine, asLine, stepWith, stepOf, onto, playFrom, playAll, lineBy, recordBy, answerLine, RoundRuns, RecordsRun, namesLine, outputWith, outputOf, OutputRuns}
-use Rattle.round.proofs.Calls.{faithful}
+use Rattle.round.specs.Round.{pieceOf, mostOf, firstAt, callPieces, answerLine, outputWith, outputOf, roundOf, namesLine, OutputRuns, OutputInChunks, RecordsRun}
+use Rattle.round.proofs.Calls.{ruleOf, piece-is, table-is, piece-most}
 
-calls-line : (hs : List (List ℕ)) (l : List ℕ) (ls : Lines) (c : CallSaid) → callOf hs (fieldsIn l) ≡ some c → callsFrom hs (line l ls) ≡ callIn c ∷ callsFrom hs ls
-unfolding callsFrom
-calls-line hs l ls c e = rw (callsFrom, e)
+pub call-bounded : (text : List ℕ) (form : Form) → Bounded (callPieces text form)
+call-bounded text form = record {
+  fits = λ s. piece-most (s .1) form (callAt text (callColumnsIn text) (s .0));
+  fewer = λ s e. let l = ltb-true (s .0) (length text) e in omega (arith, next-later text (s .0) l);
+}
 
-calls-done : (hs : List (List ℕ)) → callsFrom hs done ≡ []
-unfolding callsFrom
-calls-done hs = refl
+pub calls-advance : (text : List ℕ) (form : Form) → ChunksAdvance (callPieces text form)
+calls-advance text form = chunks-advance (callPieces text form) (call-bounded text form)
+
+-- ---- a row of calls takes at least six bytes
+
+ahead-long : (b : ℕ) (fs : List (List ℕ)) → length (ahead b fs) ≡ length fs
+unfolding ahead
+ahead-long b [] = refl
+ahead-long b (f ∷ fs) = refl
+
+fields-few : (l : List ℕ) → length (fieldsIn l) ≤ length l + 1
+unfolding fieldsIn
+fields-few [] = omega arith
+fields-few (b ∷ bs) = go (fields-few bs) (eqb b 32)
+  where
+    go : length (fieldsIn bs) ≤ length bs + 1 → (v : Bool) → length (cond v ([] ∷ fieldsIn bs) (ahead b (fieldsIn bs))) ≤ length (b ∷ bs) + 1
+    go h true = omega arith
+    go h false = omega (arith, ahead-long b (fieldsIn bs))
+
+only-some : (v : Bool) (o : Option CallSaid) (c : CallSaid) → cond v o none ≡ some c → v ≡ true
+only-some true o c e = refl
+only-some false o c e = cc
+
+six-of : (six : Bool) (name caller other set tag bytes : List ℕ) (r : CallRead) (c : CallSaid) → callFrom six name caller other set tag bytes r ≡ some c → six ≡ true
+six-of six name caller other set tag bytes CallRead.Bad c e = cc
+six-of six name caller other set tag bytes (CallRead.Call k) c e =
+    let f = only-some (fieldsFit six name caller other set tag bytes (usesOf k)) _ c e in
+    and-left six _ (and-left (six && fits true (numberRead caller) caller) _
+    (and-left ((six && fits true (numberRead caller) caller) && fits (usesOf k .other) (numberRead other) other) _
+    (and-left (((six && fits true (numberRead caller) caller) && fits (usesOf k .other) (numberRead other) other) && fits (usesOf k .set) (numberRead set) set) _ f)))
+
+six-fields : (cs : CallColumns) (fs : List (List ℕ)) (c : CallSaid) → callOf cs fs ≡ some c → length fs ≡ 6
+unfolding callOf callBy
+six-fields cs fs c e =
+    let j = numberRead (fieldAt fs (cs .other)) in
+    let n = numberRead (fieldAt fs (cs .set)) in
+    let p = numberRead (fieldAt fs (cs .tag)) in
+    let r = callNamed (fieldAt fs (cs .call)) (valueIn (numberRead (fieldAt fs (cs .caller)))) (valueIn j) (valueIn n) (valueIn p) in
+    eqb-true (length fs) 6 (six-of (eqb (length fs) 6) (fieldAt fs (cs .call)) (fieldAt fs (cs .caller)) (fieldAt fs (cs .other)) (fieldAt fs (cs .set))
+    (fieldAt fs (cs .tag)) (fieldAt fs (cs .bytes)) r c e)
+
+row-long : (text : List ℕ) (at : ℕ) (cs : CallColumns) (c : CallSaid) → callOf cs (fieldsIn (lineAt text at)) ≡ some c → at + 5 ≤ lineEnd text at
+unfolding lineEnd lineAt
+row-long text at cs c e =
+    omega (arith, six-fields cs (fieldsIn (lineAt text at)) c e, fields-few (lineAt text at), length-take (indexOf 10 (drop at text)) (drop at text))
+
+-- ---- the rows of an accepted text
+
+-- the columns of the calls
+abbrev colsOf : List ℕ → CallColumns
+colsOf text = callColumnsIn text
+
+-- whole rows from a place to the text's end, each a call
+data Rows (text : List ℕ) : ℕ → Type 0 where
+  end : {at : ℕ} → length text ≤ at → Rows text at
+  row : {at : ℕ} (c : CallSaid) → at < length text → lineEnd text at < length text → callOf (colsOf text) (fieldsIn (lineAt text at)) ≡ some c
+      → Rows text (lineEnd text at + 1) → Rows text at
 
 good-some : (o : Option CallSaid) → isSome o ≡ true → (c : CallSaid) × (o ≡ some c)
 good-some none e = let z : _≡_ {A = ℕ} 0 1 = cc in absurd (omega arith)
@@ -51,97 +115,34 @@ end-later : (text : List ℕ) (at : ℕ) → at ≤ lineEnd text at
 unfolding lineEnd
 end-later text at = omega arith
 
--- the next line stands later in the text
-pub step-later : (text : List ℕ) (names at : ℕ) (t : Table) → at < length text → at < stepOf text names at t .at
-unfolding stepWith
-step-later text names at t h = next-later text at h
-
--- what each step gives, where it is what a rule gives for the call
-module _ {X : Type 0} (give : Step → List X) (rule : Table → Call words → List X) (text : List ℕ) (names : ℕ)
-    (same : (at : ℕ) (t : Table) (c : CallSaid) → give (stepWith text at (played t (asCallRow (some c)))) ≡ rule t (callIn c)) where
-  abbrev hs : List (List ℕ)
-  hs = fieldsIn (lineAt text names)
-
-  abbrev runOf : Table → List (Call words) → List X × Table
-  runOf t cs = (trace (step hub) rule t cs, final (step hub) t cs)
-
-  run : Table → Lines → List X × Table
-  run t ls = runOf t (callsFrom hs ls)
-
-  play-none : (k at : ℕ) (t : Table) → length text ≤ at → playFrom give text names k at t ≡ ([], t)
-  unfolding playFrom
-  play-none zero at t h = refl
-  play-none (suc k) at t h = rw (le-ltb _ _ h)
-
-  play-one : (k at : ℕ) (t : Table) → at < length text
-      → playFrom give text names (suc k) at t ≡ onto (give (stepOf text names at t)) (playFrom give text names k (stepOf text names at t .at) (stepOf text names at t .table))
-  unfolding playFrom
-  play-one k at t h = rw (lt-ltb _ _ h)
-
-  run-none : (at : ℕ) (t : Table) → length text ≤ at → run t (linesOf (drop at text)) ≡ ([], t)
-  unfolding run
-  run-none at t h = ap (runOf t) (ap (callsFrom hs) (lines-end text at h) ∙ calls-done hs)
-
-  -- a row that is a call
-  module _ (at : ℕ) (t : Table) (c : CallSaid) (e : callOf hs (fieldsIn (lineAt text at)) ≡ some c) where
-    call-is : callAt text names at ≡ asCallRow (some c)
-    unfolding callAt
-    call-is = ap asCallRow e
-
-    first : give (stepOf text names at t) ≡ rule t (callIn c)
-    first = ap (λ (r : CallRow). give (stepWith text at (played t r))) call-is ∙ same at t c
-
-    next : stepOf text names at t .table ≡ step hub t (callIn c)
-    unfolding stepWith
-    next = ap (λ (r : CallRow). played t r .table) call-is ∙ faithful t c .table
-
-    place : stepOf text names at t .at ≡ nextLine text at
-    unfolding stepWith
-    place = refl
-
-    run-one : (ls : Lines) → run t (line (lineAt text at) ls) ≡ onto (rule t (callIn c)) (run (step hub t (callIn c)) ls)
-    unfolding run
-    run-one ls = ap (runOf t) (calls-line hs (lineAt text at) ls c e)
-
-  module _ (k at n i : ℕ) (t : Table) (m : length text ≤ at + suc k) (p : 0 < n) (b : rowsBad (callGood hs) true n i (linesOf (drop at text)) ≡ 0)
-      (ih : (u : Table) → rowsBad (callGood hs) true (n + 1) (i + 1) (linesOf (drop (lineEnd text at + 1) text)) ≡ 0
-      → playFrom give text names k (lineEnd text at + 1) u ≡ run u (linesOf (drop (lineEnd text at + 1) text))) where
+module _ (text : List ℕ) where
+  module _ (at n i : ℕ) (p : 0 < n) (b : rowsBad (Block.Calls (colsOf text)) n i (linesOf (drop at text)) ≡ 0)
+      (ih : rowsBad (Block.Calls (colsOf text)) (n + 1) (i + 1) (linesOf (drop (lineEnd text at + 1) text)) ≡ 0 → Rows text (lineEnd text at + 1)) where
     module _ (l : at < length text) (w : lineEnd text at < length text) where
       here : linesOf (drop at text) ≡ line (lineAt text at) (linesOf (drop (lineEnd text at + 1) text))
       here = line-here text at (lineEnd text at) refl (omega arith) w .is
 
-      call : (c : CallSaid) → callOf hs (fieldsIn (lineAt text at)) ≡ some c → callGood hs i (lineAt text at) ≡ true
-          → playFrom give text names (suc k) at t ≡ run t (linesOf (drop at text))
-      call c e g =
-          play-one k at t l
-          ∙ ap₂ onto (first at t c e)
-          (ap₂ (playFrom give text names k) (place at t c e ∙ next-whole text at w) (next at t c e) ∙ ih (step hub t (callIn c)) (sym (last-step (callGood hs) n i here g) ∙ b))
-          ∙ sym (ap (run t) here ∙ run-one at t c e (linesOf (drop (lineEnd text at + 1) text)))
+      row-is : (g : Bool) → rowGood (Block.Calls (colsOf text)) i (lineAt text at) ≡ g → Rows text at
+      row-is true g =
+          let s = good-some (callOf (colsOf text) (fieldsIn (lineAt text at))) g in
+          row (s .0) l w (s .1) (ih (sym (rows-step (Block.Calls (colsOf text)) n i here _ refl refl g) ∙ b))
+      row-is false g = let q = sym (rows-bad (Block.Calls (colsOf text)) n i here _ refl refl g) ∙ b in absurd (omega arith)
 
-      row : (g : Bool) → callGood hs i (lineAt text at) ≡ g → playFrom give text names (suc k) at t ≡ run t (linesOf (drop at text))
-      unfolding callGood
-      row true g = let s = good-some (callOf hs (fieldsIn (lineAt text at))) g in call (s .0) (s .1) g
-      row false g = let q = sym (last-bad (callGood hs) n i here g) ∙ b in absurd (omega arith)
-
-    turn : (v : Bool) → ltb at (length text) ≡ v → (w : Bool) → ltb (lineEnd text at) (length text) ≡ w → playFrom give text names (suc k) at t ≡ run t (linesOf (drop at text))
+    turn : (v : Bool) → ltb at (length text) ≡ v → (w : Bool) → ltb (lineEnd text at) (length text) ≡ w → Rows text at
     turn true f true g =
-        row (ltb-true at (length text) f) (ltb-true (lineEnd text at) (length text) g) (callGood hs i (lineAt text at)) refl
+        row-is (ltb-true at (length text) f) (ltb-true (lineEnd text at) (length text) g) (rowGood (Block.Calls (colsOf text)) i (lineAt text at)) refl
     turn true f false g =
         let l = ltb-true at (length text) f in
         let c = line-ends text at (lineEnd text at) (omega arith) refl .last (ltb-false (lineEnd text at) (length text) g) l in
-        let q = sym (rows-cut (callGood hs) n i c) ∙ b in
+        let q = sym (rows-cut (Block.Calls (colsOf text)) n i c) ∙ b in
         absurd (omega arith)
-    turn false f w g =
-        let l = ltb-false at (length text) f in
-        play-none (suc k) at t l ∙ sym (run-none at t l)
+    turn false f w g = end (ltb-false at (length text) f)
 
-  steps : (k at n i : ℕ) (t : Table) → length text ≤ at + k → 0 < n → rowsBad (callGood hs) true n i (linesOf (drop at text)) ≡ 0
-      → playFrom give text names k at t ≡ run t (linesOf (drop at text))
-  steps zero at n i t m p b = play-none zero at t (omega arith) ∙ sym (run-none at t (omega arith))
-  steps (suc k) at n i t m p b =
-      turn k at n i t m p b (λ u d. steps k (lineEnd text at + 1) (n + 1) (i + 1) u (omega (arith, end-later text at)) (omega arith) d) (ltb at (length text)) refl (ltb (lineEnd text at) (length text)) refl
-
--- ---- the calls' block of an accepted text
+  rows-are : (k at n i : ℕ) → length text ≤ at + k → 0 < n → rowsBad (Block.Calls (colsOf text)) n i (linesOf (drop at text)) ≡ 0 → Rows text at
+  rows-are zero at n i m p b = end {at = at} (omega arith)
+  rows-are (suc k) at n i m p b =
+      turn at n i p b (λ d. rows-are k (lineEnd text at + 1) (n + 1) (i + 1) (omega (arith, end-later text at)) (omega arith) d)
+      (ltb at (length text)) refl (ltb (lineEnd text at) (length text)) refl
 
 else-none : (a b : ℕ) → orElse a b ≡ 0 → b ≡ 0
 unfolding orElse
@@ -151,12 +152,11 @@ else-none a b e = go (eqb a 0) refl e
     go true f q = q
     go false f q = absurd (eqb-false a 0 f q)
 
-rows-none : (text : List ℕ) (p : Place) → 0 < p .line → blockBad callNames callGood true text p ≡ 0
-    → rowsBad (callGood (namesAt text p)) true (p .line + 1) 0 (rowsAt text p) ≡ 0
+rows-none : (b : Block) (named : Bool) (text : List ℕ) (p : Place) → 0 < p .line → blockBad b named text p ≡ 0 → rowsBad b (p .line + 1) 0 (rowsAt text p) ≡ 0
 unfolding blockBad
-rows-none text p h e = go (ltb (lineEnd text (p .at)) (length text) && namesOnce callNames (namesAt text p)) e
+rows-none b named text p h e = go (ltb (lineEnd text (p .at)) (length text) && named) e
   where
-    go : (t : Bool) → cond t (rowsBad (callGood (namesAt text p)) true (p .line + 1) 0 (rowsAt text p)) (p .line) ≡ 0 → rowsBad (callGood (namesAt text p)) true (p .line + 1) 0 (rowsAt text p) ≡ 0
+    go : (t : Bool) → cond t (rowsBad b (p .line + 1) 0 (rowsAt text p)) (p .line) ≡ 0 → rowsBad b (p .line + 1) 0 (rowsAt text p) ≡ 0
     go true q = q
     go false q = absurd (omega arith)
 
@@ -164,35 +164,106 @@ calls-line-number : (text : List ℕ) → 0 < callsAt text .line
 unfolding callsAt groupsAt pastEmpty start
 calls-line-number text = omega arith
 
-module _ {X : Type 0} (give : Step → List X) (rule : Table → Call words → List X) where
-  all-runs : (text : List ℕ) (t : Table) → ((at : ℕ) (u : Table) (c : CallSaid) → give (stepWith text at (played u (asCallRow (some c)))) ≡ rule u (callIn c)) → verdictOf text ≡ Accepted
-      → playAll give text t ≡ (trace (step hub) rule t (callsOf text), final (step hub) t (callsOf text))
-  unfolding callsOf run badLine
-  all-runs text t same e =
-      let b = bad-none text e in
-      let q = else-none _ _ (else-none _ _ b) in
-      steps give rule text (callsAt text .at) same (length text) (nextLine text (callsAt text .at)) (callsAt text .line + 1) 0 t (omega arith) (omega arith)
-      (rows-none text (callsAt text) (calls-line-number text) q)
+only-accepted : (b : Bool) (v : Verdict) → cond b (Refused 14 0) v ≡ Accepted → b ≡ false
+only-accepted true v e = cc
+only-accepted false v e = refl
 
-line-given : (text : List ℕ) (at : ℕ) (t : Table) (c : CallSaid) → lineBy (stepWith text at (played t (asCallRow (some c)))) ≡ answerLine t (callIn c)
-unfolding stepWith asLine
-line-given text at t c =
-    let l = playedLine (played t (asCallRow (some c))) in
-    ap (λ (x : List ℕ). x ∷ []) (take-append-seam l (drop (length l) blankLine) ∙ faithful t c .line)
+-- the rows of an accepted text, which is not too long
+module _ (text : List ℕ) (e : verdictOf text ≡ Accepted) where
+  rows-of : Rows text (firstAt text)
+  unfolding badLine callsBad callColumnsIn
+  rows-of =
+      let q = else-none _ _ (else-none _ _ (bad-none text e)) in
+      rows-are text (length text) (firstAt text) (callsAt text .line + 1) 0 (omega arith) (omega arith) (rows-none _ _ text (callsAt text) (calls-line-number text) q)
 
-record-given : (text : List ℕ) (at : ℕ) (t : Table) (c : CallSaid) → recordBy (stepWith text at (played t (asCallRow (some c)))) ≡ answer hub t (callIn c) .entry
-unfolding stepWith
-record-given text at t c = faithful t c .entry
+  text-most : length text ≤ 65535
+  unfolding verdictOf
+  text-most = ltb-false 65535 (length text) (only-accepted (ltb 65535 (length text)) _ e)
 
-pub round-runs : RoundRuns
-round-runs text e = ap (λ (r : List (List ℕ) × Table). r .0) (all-runs lineBy answerLine text (loadOf text .table) (line-given text) e)
+-- ---- a buffer with room for all rows
+
+-- what a run of calls gives, the table after it, and no line left
+module _ (text : List ℕ) (form : Form) where
+  pub record Ran (t : Table) (cs : List (Call words)) (r : List ℕ × (ℕ × Table)) : Type 0 where
+    pub bytes : r .0 ≡ trace (step hub) (ruleOf form) t cs
+    pub table : r .1 .1 ≡ final (step hub) t cs
+    pub all : length text ≤ r .1 .0
+
+  none-ran : (k room at : ℕ) (t : Table) → length text ≤ at → Ran t (callsFrom (colsOf text) (linesOf (drop at text))) (chunkFrom (callPieces text form) k room (at, t))
+  unfolding callsFrom
+  none-ran k room at t h =
+      subst (λ (ls : Lines). Ran t (callsFrom (colsOf text) ls) (chunkFrom (callPieces text form) k room (at, t))) (sym (lines-end text at h))
+      (subst (Ran t []) (sym (none-taken (callPieces text form) k room (at, t) (no-piece (callPieces text form) room (at, t) (le-ltb _ _ h)))) (record { bytes = refl; table = refl; all = h }))
+
+  -- a row that is a call
+  module _ (at : ℕ) (t : Table) (c : CallSaid) (w : lineEnd text at < length text) (e : callOf (colsOf text) (fieldsIn (lineAt text at)) ≡ some c) where
+    call-is : callAt text (callColumnsIn text) at ≡ asCallRow (some c)
+    unfolding callAt
+    call-is = ap asCallRow e
+
+    piece-here : callPieces text form .piece (at, t) ≡ ruleOf form t (callIn c)
+    piece-here = ap (λ (r : CallRow). pieceOf form (played t r)) call-is ∙ piece-is t c form
+
+    next-here : callPieces text form .next (at, t) ≡ (lineEnd text at + 1, step hub t (callIn c))
+    next-here =
+        let n = next-whole text at w in
+        let u : played t (callAt text (callColumnsIn text) at) .table ≡ step hub t (callIn c) = ap (λ (r : CallRow). played t r .table) call-is ∙ table-is t c in
+        λ i. (n i, u i)
+
+    calls-here : at < length text → callsFrom (colsOf text) (linesOf (drop at text)) ≡ callIn c ∷ callsFrom (colsOf text) (linesOf (drop (lineEnd text at + 1) text))
+    unfolding callsFrom
+    calls-here l = rw (line-here text at (lineEnd text at) refl (omega arith) w .is, callsFrom, e)
+
+  one-ran : (t : Table) (c : Call words) (cs : List (Call words)) (x : List ℕ) (r : List ℕ × (ℕ × Table)) → x ≡ ruleOf form t c → Ran (step hub t c) cs r → Ran t (c ∷ cs) (onto x r)
+  one-ran t c cs x r e q = record { bytes = ap₂ (λ (a b : List ℕ). a ++ b) e (q .bytes); table = q .table; all = q .all }
+
+  -- so many rows take six bytes of the text each
+  rows-ran : {at : ℕ} → Rows text at → (k q room : ℕ) (t : Table) → length text ≤ at + k → length text ≤ at + 6 * q + 5 → q * mostOf form ≤ room
+      → Ran t (callsFrom (colsOf text) (linesOf (drop at text))) (chunkFrom (callPieces text form) k room (at, t))
+  rows-ran {at} (end h) k q room t m f r = none-ran k room at t h
+  rows-ran {at} (row c l w e rs) zero q room t m f r = absurd (omega arith)
+  rows-ran {at} (row c l w e rs) (suc k) zero room t m f r = absurd (omega (arith, row-long text at (colsOf text) c e))
+  rows-ran {at} (row c l w e rs) (suc k) (suc q) room t m f r =
+      let P = callPieces text form in
+      let s = suc-mul q (mostOf form) in
+      let d = row-long text at (colsOf text) c e in
+      let z = call-bounded text form .fits (at, t) in
+      let rest = rows-ran rs k q (room - length (P .piece (at, t))) (step hub t (callIn c)) (omega arith) (omega arith) (omega arith) in
+      subst (λ (cs : List (Call words)). Ran t cs (chunkFrom P (suc k) room (at, t))) (sym (calls-here at t c w e l))
+      (subst (Ran t (callIn c ∷ callsFrom (colsOf text) (linesOf (drop (lineEnd text at + 1) text))))
+      (sym (one-taken P k room (at, t) (goes-room P room (at, t) (lt-ltb _ _ l) (omega arith))
+      ∙ ap (λ (u : ℕ × Table). onto (P .piece (at, t)) (chunkFrom P k (room - length (P .piece (at, t))) u)) (next-here at t c w e)))
+      (one-ran t (callIn c) _ (P .piece (at, t)) _ (piece-here at t c w e) rest))
+
+  calls-ran : (q room : ℕ) (t : Table) → verdictOf text ≡ Accepted → length text ≤ 6 * q + 5 → q * mostOf form ≤ room
+      → Ran t (callsOf text) (chunk (callPieces text form) room (firstAt text, t))
+  unfolding callsOf
+  calls-ran q room t e f r = rows-ran (rows-of text e) (length text - firstAt text) q room t (omega arith) (omega arith) r
 
 pub records-run : RecordsRun
-records-run text t e = all-runs recordBy (λ (u : Table) (c : Call words). answer hub u c .entry) text t (record-given text) e
+records-run text room t e h =
+    let r = calls-ran text Form.Records 10922 room t e (omega (arith, text-most text e)) (omega arith) in
+    (r .bytes, r .table, r .all)
+
+-- all lines are one chunk of a buffer that is large enough
+round-runs : (text : List ℕ) → verdictOf text ≡ Accepted → roundOf text ≡ trace (step hub) answerLine (loadOf text .table) (callsOf text)
+round-runs text e =
+    let P = callPieces text Form.Lines in
+    let s : ℕ × Table = (firstAt text, loadOf text .table) in
+    let c = chunk P (length text * 162) s in
+    let r = calls-ran text Form.Lines (length text) (length text * 162) (loadOf text .table) e (omega arith) (omega arith) in
+    ap (λ (x : List ℕ × (ℕ × Table)). x .0)
+    (chunk-then P (call-bounded text Form.Lines) (P .left s) (length text * 162) s (omega arith) ∙ ap (onto (c .0)) (none-joined P (P .left (c .1)) (c .1) (le-ltb _ _ (r .all))))
+    ∙ append-nil (c .0) ∙ r .bytes
 
 pub output-runs : OutputRuns
 output-runs text = go (verdictOf text) refl
   where
     go : (v : Verdict) → verdictOf text ≡ v → outputOf text ≡ outputWith text (trace (step hub) answerLine (loadOf text .table) (callsOf text))
-    go Accepted e = rw e (ap (λ (ls : List (List ℕ)). namesLine ∷ ls) (round-runs text e))
+    go Accepted e = rw e (ap (λ (ls : List ℕ). namesLine ++ ls) (round-runs text e))
     go (Refused n l) e = rw e refl
+
+pub output-in-chunks : OutputInChunks
+output-in-chunks text room h =
+    ap (λ (r : List ℕ × (ℕ × Table)). outputWith text (r .0))
+    (chunks-join (callPieces text Form.Lines) (call-bounded text Form.Lines) room (firstAt text, loadOf text .table) h)

@@ -1,6 +1,6 @@
 -- Document 01, 'A watering round through hubcalls': what the program does with one line of calls.
 -- Assumes nothing.
-use mathlib.Core.Bool.{cond}
+use mathlib.Core.Bool.{true, false, cond}
 use mathlib.Core.List.{List, []}
 use Prim.Native.Nat.{ℕ}
 use lib.ListN.{length, take, replicate}
@@ -12,10 +12,10 @@ use Rattle.label.specs.Words.{words}
 use Rattle.monitor.specs.declared.Table.{Table}
 use Rattle.monitor.specs.Table.{hub}
 use Rattle.monitor.specs.Calls.{reply, bufferAfter}
-use Rattle.rows.specs.declared.CallRead.{CallRead}
-use Rattle.rows.specs.declared.CallRead.the-variants as CallRead
-use Rattle.rows.specs.declared.CallRow.{CallRow}
-use Rattle.rows.specs.Calls.{showBuffer}
+use Rattle.callrows.specs.declared.CallRead.{CallRead}
+use Rattle.callrows.specs.declared.CallRead.the-variants as CallRead
+use Rattle.callrows.specs.declared.CallRow.{CallRow}
+use Rattle.callrows.specs.Calls.{showBuffer}
 use Rattle.round.specs.declared.Played.{Played}
 
 -- the bytes of a show are those that it moves; another call shows none
@@ -26,14 +26,15 @@ bytesShown c moved = cond (isShow (callWith c [] [])) moved 0
 unfoldable pub performed : Table → Named → List ℕ → Played
 performed t c bytes = record {
   table = reply t (callWith c bytes showBuffer) .table;
+  called = true;
   entry = reply t (callWith c bytes showBuffer) .answer .entry;
   buffer = bufferAfter t c bytes showBuffer;
   len = length (answer hub t (callWith c bytes showBuffer) .part);
 }
 
--- no call: the table as it is
+-- a row that is no call: the table as it is
 unfoldable pub unplayed : Table → Played
-unplayed t = record { table = t; entry = replicate (recordSize words) 0; buffer = showBuffer; len = 0 }
+unplayed t = record { table = t; called = false; entry = replicate (recordSize words) 0; buffer = showBuffer; len = 0 }
 
 abbrev pub playedBy : Table → CallRead → List ℕ → Played
 playedBy t (CallRead.Call c) bytes = performed t c bytes

@@ -1,19 +1,25 @@
 // A round: the calls of a text, played one by one.
 ghost use mathlib.Core.Path.{_≡_};
+ghost use mathlib.Core.Bool.{cond};
+ghost use Prim.Native.Nat.{_+_};
+ghost use lib.Dec.{ltb};
 ghost use lib.ListN.{length, take};
-ghost use Rattle.rows.specs.Calls.{showBuffer};
-ghost use Rattle.print.specs.Lines.{callLine};
 ghost use Rattle.rules.specs.Record.{filled};
+ghost use Rattle.callrows.specs.Calls.{showBuffer};
+ghost use Rattle.print.specs.Lines.{asLine};
+ghost use Rattle.print.specs.Chunks.{chunk};
 ghost use Rattle.round.specs.Played.{bytesShown, performed, unplayed, played};
-ghost use Rattle.round.specs.Round.{blankLine, asLine, stepOf, recordsWithin, endedOf};
+ghost use Rattle.round.specs.Round.{madeOf, pieceWith, mostOf, firstAt, callPieces, asPart};
+use callrows::CallRead;
+use callrows::CallRow;
 use monitor::Table;
-use rows::CallRead;
-use rows::CallRow;
+use print::Line;
 use rules::Call;
 
-// The table after a call, the call's record, and the bytes that it shows: the first len of a buffer.
+// The table after a row, and whether it is a call; the call's record, and the bytes that it shows: the first len of a buffer.
 pub struct Played {
     pub table: Table,
+    pub called: bool,
     pub entry: [u8; records::SIZE],
     pub buffer: [u8; 64],
     pub len: usize,
@@ -54,6 +60,7 @@ fn performed(table: Table, call: Call, bytes: [u8; 255], n: usize) -> Played
     let len = bytes_shown(call, entry[4]);
     Played {
         table: next,
+        called: true,
         entry: entry,
         buffer: buffer,
         len: len,
@@ -66,14 +73,15 @@ fn unplayed(table: Table) -> Played
     let buffer = no_buffer();
     Played {
         table: table,
+        called: false,
         entry: [0u8; records::SIZE],
         buffer: buffer,
         len: 0,
     }
 }
 
-// Plays the call of a row.
-pub fn play(table: Table, row: CallRow) -> Played
+// Plays the call of a row; one that is none leaves the table as it is.
+fn play(table: Table, row: CallRow) -> Played
     ensures { λ p. ⌜ p ≡ played table row ⌝ }
 {
     let read = row.read;
@@ -84,82 +92,91 @@ pub fn play(table: Table, row: CallRow) -> Played
     }
 }
 
-// A printed line: the first len of some bytes.
-pub struct Line {
-    pub bytes: [u8; 162],
-    pub len: usize,
+// The place of the next line, behind the end of one.
+fn behind(text: &[u8], end: usize) -> usize
+    ensures { λ r. ⌜ r ≡ cond (ltb end (length (now (text .entry)))) (end + 1) end ⌝ }
+{
+    if end < text.len() {
+        return end + 1;
+    }
+    end
 }
 
-// What a line of calls comes to: the table after its call, where the next line starts, the record, and what is printed.
-pub struct Step {
+// What is made of the calls: a printed line of each, or its record.
+pub enum Form {
+    Lines,
+    Records,
+}
+
+// What is made of a call in a form: of its record, and of the first n bytes of its buffer.
+fn made(form: Form, entry: [u8; records::SIZE], buffer: [u8; 64], n: usize) -> Line
+    ensures { λ r. ⌜ r ≡ asLine (madeOf form entry (take n buffer)) ⌝ }
+{
+    match form {
+        Form::Lines => print::call_line(entry, buffer, n),
+        Form::Records => print::line_of(&entry),
+    }
+}
+
+// What is made of a row; nothing of one that is no call.
+fn piece(form: Form, called: bool, entry: [u8; records::SIZE], buffer: [u8; 64], n: usize) -> Line
+    ensures { λ r. ⌜ r ≡ asLine (pieceWith form called entry (take n buffer)) ⌝ }
+{
+    if called {
+        return made(form, entry, buffer, n);
+    }
+    print::line_of(b"")
+}
+
+// How many bytes are made of a row at most.
+fn most(form: Form) -> usize
+    ensures { λ r. ⌜ r ≡ mostOf form ⌝ }
+{
+    match form {
+        Form::Lines => 162,
+        Form::Records => records::SIZE,
+    }
+}
+
+// Where the first line of a text's calls stands.
+pub fn first_at(text: &[u8]) -> usize
+    ensures { λ r. ⌜ r ≡ firstAt (now (text .entry)) ⌝ }
+{
+    text::next_line(text, load::calls_at(text))
+}
+
+// A part of a text's calls, played: the table after them, the place of the next line, and how many bytes of a lent buffer
+// they take. All were played where that place is the text's end.
+pub struct Part {
     pub table: Table,
     pub at: usize,
-    pub entry: [u8; records::SIZE],
-    pub line: Line,
-}
-
-// The table after some calls, and how many bytes of a lent buffer their records take.
-pub struct Ended {
-    pub table: Table,
     pub len: usize,
 }
 
-fn blank_line() -> [u8; 162]
-    ensures { λ r. ⌜ r ≡ blankLine ⌝ }
+// Plays the calls of a text from a place and a table on. What is made of them goes to the front of a lent buffer, as long as
+// the most that can be made of a row has room there.
+pub fn play_calls(text: &[u8], from: usize, start: Table, form: Form, out: &mut [u8]) -> Part
+    ensures { λ r. ⌜ r ≡ asPart (chunk (callPieces (now (text .entry)) form) (length (now (out .entry))) (from, start)) ⌝ }
+    ensures { λ _. ⌜ now (out .exit) ≡ filled (chunk (callPieces (now (text .entry)) form) (length (now (out .entry))) (from, start) .0) (now (out .entry)) ⌝ }
 {
-    [0u8; 162]
-}
-
-// The line of a record and of the first n bytes of a buffer.
-fn line_of(entry: [u8; records::SIZE], buffer: [u8; 64], n: usize) -> Line
-    ensures { λ r. ⌜ r ≡ asLine (callLine entry (take n buffer)) ⌝ }
-{
-    let mut bytes = blank_line();
-    let len = print::call_line(&entry, handing::front(&buffer, n), &mut bytes);
-    Line {
-        bytes: bytes,
-        len: len,
-    }
-}
-
-// Plays the line of calls at a place of a text, whose line of names stands at another, on a table.
-pub fn play_at(text: &[u8], names: usize, at: usize, table: Table) -> Step
-    ensures { λ r. ⌜ r ≡ stepOf (now (text .entry)) names at table ⌝ }
-{
-    let p = play(table, load::call_at(text, names, at));
-    let next = p.table;
-    let entry = p.entry;
-    let buffer = p.buffer;
-    let line = line_of(entry, buffer, p.len);
-    let after = text::next_line(text, at);
-    Step {
-        table: next,
-        at: after,
-        entry: entry,
-        line: line,
-    }
-}
-
-// Plays all calls of a text from a table on. Their records go to the front of a lent buffer, in order, as far as they have
-// room there.
-pub fn play_calls(text: &[u8], start: Table, out: &mut [u8]) -> Ended
-    ensures { λ r. ⌜ r ≡ endedOf (now (text .entry)) start (length (now (out .entry))) ⌝ }
-    ensures { λ _. ⌜ now (out .exit) ≡ filled (recordsWithin (now (text .entry)) start (length (now (out .entry)))) (now (out .entry)) ⌝ }
-{
-    let names = load::calls_at(text);
+    let columns = load::call_columns(text);
+    let room = most(form);
     let mut table = start;
+    let mut at = from;
     let mut n = 0;
-    let mut at = text::next_line(text, names);
-    while at < text.len() {
-        let s = play_at(text, names, at, table);
-        let entry = s.entry;
-        n = records::append(out, n, entry);
-        let next = s.table;
+    while at < text.len() && room <= out.len() - n {
+        let end = text::line_end(text, at);
+        let p = play(table, callrows::call_row(columns, &text[at..end]));
+        let entry = p.entry;
+        let buffer = p.buffer;
+        n = print::append(piece(form, p.called, entry, buffer, p.len), out, n);
+        let next = p.table;
         table = next;
-        at = s.at;
+        at = behind(text, end);
     }
-    Ended {
+    Part {
         table: table,
+        at: at,
         len: n,
     }
 }

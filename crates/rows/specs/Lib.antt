@@ -1,4 +1,3 @@
-pub mod Options
 pub mod Names
 pub mod Entities
-pub mod Calls
+pub mod Readings

@@ -6,6 +6,7 @@ use mathlib.Core.List.{List, map}
 use Prim.Native.Nat.{ℕ}
 use native.Mathlib.Omega.{arith}
 use lib.Dec.{eqb}
+use borrow.Author.Tests.{eq-eqb}
 use lib.ListN.{length, length-map}
 use Rattle.rules.specs.declared.Outcome.{Outcome}
 use Rattle.rules.specs.declared.Outcome.the-variants.{Allowed, Refused}
@@ -98,6 +99,16 @@ number-of-first f (m if false else r) n e h = number-of-first f r n e (and-right
 
 pub refused-not-allowed : (n : ℕ) → Refused n ≡ Allowed → ⊥
 refused-not-allowed n e = let z : _≡_ {A = ℕ} 0 1 = cc in omega arith
+
+-- some refusal numbered n applies; that of the number which is returned does
+abbrev pub someNumbered : ℕ → Refusals → Bool
+someNumbered n allow = false
+someNumbered n (m if b else r) = (eqb n m && b) || someNumbered n r
+
+pub returned : (r : Refusals) (n : ℕ) → first r ≡ Refused n → someNumbered n r ≡ true
+returned allow n e = cc
+returned (m if true else r) n e = or-left (eqb n m && true) _ (both (eqb n m) true (eq-eqb n m cc) refl)
+returned (m if false else r) n e = or-right (eqb n m && false) _ (returned r n e)
 
 -- two cascades with one first refusal are equal if the rest is where that one does not apply
 pub guard : (n : ℕ) (b : Bool) (x y : Outcome) → (b ≡ false → x ≡ y) → cond b (Refused n) x ≡ cond b (Refused n) y

@@ -1,7 +1,7 @@
 -- No sequence of calls takes an accepted table to one that is not.
 -- Assumes nothing.
-use mathlib.Core.Path.{_≡_, refl, _∙_}
-use mathlib.Core.Bool.{Bool, true, false, cond, not, _||_}
+use mathlib.Core.Path.{_≡_, refl, sym, _∙_}
+use mathlib.Core.Bool.{Bool, true, false, cond, not, _&&_, _||_}
 use mathlib.Core.List.{List, [], _∷_}
 use Prim.Native.Nat.{ℕ}
 use lib.Dec.{ltb, eqb}
@@ -16,6 +16,7 @@ use Rattle.rules.specs.Laws.{OrderLaws, TableLaws}
 use Rattle.rules.specs.Claims.{StaysAccepted}
 use Rattle.rules.proofs.Facts.{not-false, and-left, and-right, both, or-right, either, condition}
 use Rattle.rules.proofs.Bounded.{all-at, all-of}
+use Rattle.rules.proofs.Held.{holds-six}
 use Rattle.rules.proofs.Steps.{step-formed, step-groups, step-all}
 
 -- an entity keeps to the groups, and a caller is one
@@ -25,14 +26,6 @@ entity-keeps Item x p e = e
 entity-keeps Program x p e = e
 
 module _ {A : Labels} (O : OrderLaws A) where
-  -- ---- the union of S, I and the rights: it is above each of the six, and below what is above them all
-
-  above-left : (a b c : A .Label) → A .below (A .join a b) c ≡ true → A .below a c ≡ true
-  above-left a b c h = O .below-trans a (A .join a b) c (O .join-left a b) h
-
-  above-right : (a b c : A .Label) → A .below (A .join a b) c ≡ true → A .below b c ≡ true
-  above-right a b c h = O .below-trans b (A .join a b) c (O .join-right a b) h
-
   -- the six are below a label
   record Within (e : Slot A) (u : A .Label) : Type 0 where
     sec : A .below (e .sec) u ≡ true
@@ -43,40 +36,31 @@ module _ {A : Labels} (O : OrderLaws A) where
     id : A .below (e .rights .id) u ≡ true
 
   within-held : (e : Slot A) → Within e (held e)
-  within-held e = record {
-    sec = above-left (e .sec) (e .int) u labels;
-    int = above-right (e .sec) (e .int) u labels;
-    sa = above-left (r .sa) (r .sd) u s-rights;
-    sd = above-right (r .sa) (r .sd) u s-rights;
-    ia = above-left (r .ia) (r .id) u i-rights;
-    id = above-right (r .ia) (r .id) u i-rights;
-  }
+  within-held e = record { sec = and-left (b (e .sec)) _ h; int = and-left (b (e .int)) _ h₂; sa = and-left (b (r .sa)) _ h₃; sd = and-left (b (r .sd)) _ h₄; ia = and-left (b (r .ia)) _ h₅; id = and-right (b (r .ia)) _ h₅ }
     where
       r : Rights A
       r = e .rights
 
-      u : A .Label
-      u = held e
+      b : A .Label → Bool
+      b a = A .below a (held e)
 
-      front : A .below (A .join (A .join (e .sec) (e .int)) (A .join (r .sa) (r .sd))) u ≡ true
-      front = O .join-left (A .join (A .join (e .sec) (e .int)) (A .join (r .sa) (r .sd))) (A .join (r .ia) (r .id))
+      h : b (e .sec) && (b (e .int) && (b (r .sa) && (b (r .sd) && (b (r .ia) && b (r .id))))) ≡ true
+      h = sym (holds-six O e (held e)) ∙ O .below-refl (held e)
 
-      labels : A .below (A .join (e .sec) (e .int)) u ≡ true
-      labels = above-left (A .join (e .sec) (e .int)) (A .join (r .sa) (r .sd)) u front
+      h₂ : b (e .int) && (b (r .sa) && (b (r .sd) && (b (r .ia) && b (r .id)))) ≡ true
+      h₂ = and-right (b (e .sec)) _ h
 
-      s-rights : A .below (A .join (r .sa) (r .sd)) u ≡ true
-      s-rights = above-right (A .join (e .sec) (e .int)) (A .join (r .sa) (r .sd)) u front
+      h₃ : b (r .sa) && (b (r .sd) && (b (r .ia) && b (r .id))) ≡ true
+      h₃ = and-right (b (e .int)) _ h₂
 
-      i-rights : A .below (A .join (r .ia) (r .id)) u ≡ true
-      i-rights = O .join-right (A .join (A .join (e .sec) (e .int)) (A .join (r .sa) (r .sd))) (A .join (r .ia) (r .id))
+      h₄ : b (r .sd) && (b (r .ia) && b (r .id)) ≡ true
+      h₄ = and-right (b (r .sa)) _ h₃
+
+      h₅ : b (r .ia) && b (r .id) ≡ true
+      h₅ = and-right (b (r .sd)) _ h₄
 
   held-least : (e : Slot A) (u : A .Label) → Within e u → A .below (held e) u ≡ true
-  held-least e u w =
-      let r = e .rights in
-      O .join-least (A .join (A .join (e .sec) (e .int)) (A .join (r .sa) (r .sd))) (A .join (r .ia) (r .id)) u
-      (O .join-least (A .join (e .sec) (e .int)) (A .join (r .sa) (r .sd)) u
-      (O .join-least (e .sec) (e .int) u (w .sec) (w .int)) (O .join-least (r .sa) (r .sd) u (w .sa) (w .sd)))
-      (O .join-least (r .ia) (r .id) u (w .ia) (w .id))
+  held-least e u w = holds-six O e u ∙ rw (w .sec, w .int, w .sa, w .sd, w .ia, w .id)
 
   -- who holds no more than one who keeps to the groups keeps to them
   each-less : (gs : List (A .Group)) (a b : A .Label) → A .below a b ≡ true → keepsEach A gs b ≡ true → keepsEach A gs a ≡ true

@@ -15,31 +15,36 @@ use Rattle.rules.specs.Refusals.{first, refusals}
 use Rattle.rules.specs.Runs.{Hidden, hides}
 use Rattle.rules.proofs.Facts.{not-false, and-left, and-right, or-left, or-right, contra, condition, guard}
 
--- What keeps it hidden: labels and rights that are safe in a slot, and the calls that a run may hold
+-- What keeps it hidden: labels and rights that are safe in a slot, and calls that are barred from a run where they are allowed,
+-- by the slot of their caller
 pub record Guard (A : Labels) : Type 0 where
   pub safe : ℕ → Kind → A .Label → A .Label → Rights A → Bool
-  pub may : Call A → Bool
+  pub bars : Slot A → Call A → Bool
 
 module _ {A : Labels} where
   abbrev pub safely : Guard A → ℕ → Slot A → Bool
   safely G i e = G .safe i (e .kind) (e .sec) (e .int) (e .rights)
 
-  -- Flow leads from what is hidden only to what is; safe changes of labels keep it hidden; and safe slots stay safe
-  pub record HidingLaws (H : Hidden A) (G : Guard A) : Type 0 where
-    pub flows : (i j : ℕ) (a b : Slot A) → safely G i a ≡ true → safely G j b ≡ true → isFree (a .kind) ≡ false → isFree (b .kind) ≡ false
-        → isProgram (a .kind) || isProgram (b .kind) ≡ true → flow a b ≡ true → hides H i a ≡ true → hides H j b ≡ true
-    pub adds : (n : ℕ) (p : A .Tag) (i : ℕ) (a : Slot A) → A .has (addRight n (a .rights)) p ≡ true → safely G i a ≡ true
-        → hides H i a ≡ true → hides H i (relabel n (A .insert p) a) ≡ true
-    pub drops : (n : ℕ) (p : A .Tag) (i : ℕ) (a : Slot A) → A .has (dropRight n (a .rights)) p ≡ true → safely G i a ≡ true
-        → hides H i a ≡ true → hides H i (relabel n (A .remove p) a) ≡ true
+  -- Safe slots stay safe
+  pub record SafeLaws (G : Guard A) : Type 0 where
     pub add-safe : (n : ℕ) (p : A .Tag) (i : ℕ) (a : Slot A) → A .has (addRight n (a .rights)) p ≡ true → safely G i a ≡ true
         → safely G i (relabel n (A .insert p) a) ≡ true
     pub drop-safe : (n : ℕ) (p : A .Tag) (i : ℕ) (a : Slot A) → A .has (dropRight n (a .rights)) p ≡ true → safely G i a ≡ true
         → safely G i (relabel n (A .remove p) a) ≡ true
-    pub new-safe : (i j n : ℕ) (a : Slot A) → G .may (create i j n) ≡ true → safely G i a ≡ true → safely G j (created n a) ≡ true
-    pub free-safe : (i j : ℕ) → G .may (release i j) ≡ true → safely G j free ≡ true
-    pub hand-safe : (i j n : ℕ) (p : A .Tag) (a b : Slot A) → G .may (hand i j n p) ≡ true → A .has (rightAt n (a .rights)) p ≡ true
+    pub new-safe : (i j n : ℕ) (a : Slot A) → G .bars a (create i j n) ≡ false → safely G i a ≡ true → safely G j (created n a) ≡ true
+    pub free-safe : (i j : ℕ) (a : Slot A) → G .bars a (release i j) ≡ false → safely G j free ≡ true
+    pub hand-safe : (i j n : ℕ) (p : A .Tag) (a b : Slot A) → G .bars a (hand i j n p) ≡ false → A .has (rightAt n (a .rights)) p ≡ true
         → safely G i a ≡ true → safely G j b ≡ true → safely G j (withRights b (grant n p (b .rights))) ≡ true
+
+  -- and so flow leads from what is hidden only to what is, and changes of labels that are not barred keep it hidden
+  pub record HidingLaws (H : Hidden A) (G : Guard A) : Type 0 where
+    pub stay : SafeLaws G
+    pub flows : (i j : ℕ) (a b : Slot A) → safely G i a ≡ true → safely G j b ≡ true → isFree (a .kind) ≡ false → isFree (b .kind) ≡ false
+        → isProgram (a .kind) || isProgram (b .kind) ≡ true → flow a b ≡ true → hides H i a ≡ true → hides H j b ≡ true
+    pub adds : (n : ℕ) (p : A .Tag) (i : ℕ) (a : Slot A) → A .has (addRight n (a .rights)) p ≡ true → safely G i a ≡ true
+        → hides H i a ≡ true → hides H i (relabel n (A .insert p) a) ≡ true
+    pub drops : (n : ℕ) (p : A .Tag) (i : ℕ) (a : Slot A) → G .bars a (dropTag i n p) ≡ false → A .has (dropRight n (a .rights)) p ≡ true
+        → safely G i a ≡ true → hides H i a ≡ true → hides H i (relabel n (A .remove p) a) ≡ true
 
   -- the slot as one knows it from whom it is hidden
   abbrev pub low : Hidden A → ℕ → Slot A → Slot A
@@ -113,18 +118,18 @@ module _ {A : Labels} (H : Hidden A) where
       low-moved (release i j) k l h r = refl
       low-moved (hand i j n p) k l h r = refl
 
-      pub low-written : (c : Call A) → safely G (callerOf c) a ≡ true → safely G (otherOf c) b ≡ true → struckBy H a c ≡ false
+      pub low-written : (c : Call A) → G .bars a c ≡ false → safely G (callerOf c) a ≡ true → safely G (otherOf c) b ≡ true → struckBy H a c ≡ false
           → ((n : ℕ) → condition n (refusals gs a b c) ≡ false)
           → low H (target c) (written (low H (callerOf c) a) (low H (otherOf c) b) c) ≡ low H (target c) (written a b c)
-      low-written (put i bs) k l h r = refl
-      low-written (show i buf) k l h r = low-under i a a (a .content) (λ e. e)
-      low-written (send i j) k l h r = rw (seen (send i j) a refl h (r 1))
-      low-written (fetch i j) k l h r = rw (source i j k l h r)
-      low-written (addTag i n p) k l h r = low-under i a (relabel n (A .insert p) a) (a .content) (L .adds n p i a (not-false _ (r 10)) k)
-      low-written (dropTag i n p) k l h r = low-under i a (relabel n (A .remove p) a) (a .content) (L .drops n p i a (not-false _ (r 10)) k)
-      low-written (create i j n) k l h r = refl
-      low-written (release i j) k l h r = refl
-      low-written (hand i j n p) k l h r = low-under j b (withRights b (grant n p (b .rights))) (b .content) (λ e. e)
+      low-written (put i bs) m k l h r = refl
+      low-written (show i buf) m k l h r = low-under i a a (a .content) (λ e. e)
+      low-written (send i j) m k l h r = rw (seen (send i j) a refl h (r 1))
+      low-written (fetch i j) m k l h r = rw (source i j k l h r)
+      low-written (addTag i n p) m k l h r = low-under i a (relabel n (A .insert p) a) (a .content) (L .adds n p i a (not-false _ (r 10)) k)
+      low-written (dropTag i n p) m k l h r = low-under i a (relabel n (A .remove p) a) (a .content) (L .drops n p i a m (not-false _ (r 10)) k)
+      low-written (create i j n) m k l h r = refl
+      low-written (release i j) m k l h r = refl
+      low-written (hand i j n p) m k l h r = low-under j b (withRights b (grant n p (b .rights))) (b .content) (λ e. e)
 
       struck-hidden : (c : Call A) → struckBy H a c ≡ true → hides H (callerOf c) a ≡ true
       struck-hidden c h = and-left (hides H (callerOf c) a) _ h
@@ -146,14 +151,16 @@ module _ {A : Labels} (H : Hidden A) where
       struck-written (release i j) k l h r = let z = struck-moves (release i j) h in cc
       struck-written (hand i j n p) k l h r = let z = struck-moves (hand i j n p) h in cc
 
-      pub safe-written : (c : Call A) → G .may c ≡ true → safely G (callerOf c) a ≡ true → safely G (otherOf c) b ≡ true
-          → ((n : ℕ) → condition n (refusals gs a b c) ≡ false) → safely G (target c) (written a b c) ≡ true
-      safe-written (put i bs) m k l r = k
-      safe-written (show i buf) m k l r = k
-      safe-written (send i j) m k l r = l
-      safe-written (fetch i j) m k l r = k
-      safe-written (addTag i n p) m k l r = L .add-safe n p i a (not-false _ (r 10)) k
-      safe-written (dropTag i n p) m k l r = L .drop-safe n p i a (not-false _ (r 10)) k
-      safe-written (create i j n) m k l r = L .new-safe i j n a m k
-      safe-written (release i j) m k l r = L .free-safe i j m
-      safe-written (hand i j n p) m k l r = L .hand-safe i j n p a b m (not-false _ (r 10)) k l
+-- a call that is not barred writes what is safe
+module _ {A : Labels} (gs : List (A .Group)) (a b : Slot A) (G : Guard A) (L : SafeLaws G) where
+  pub safe-written : (c : Call A) → G .bars a c ≡ false → safely G (callerOf c) a ≡ true → safely G (otherOf c) b ≡ true
+      → ((n : ℕ) → condition n (refusals gs a b c) ≡ false) → safely G (target c) (written a b c) ≡ true
+  safe-written (put i bs) m k l r = k
+  safe-written (show i buf) m k l r = k
+  safe-written (send i j) m k l r = l
+  safe-written (fetch i j) m k l r = k
+  safe-written (addTag i n p) m k l r = L .add-safe n p i a (not-false _ (r 10)) k
+  safe-written (dropTag i n p) m k l r = L .drop-safe n p i a (not-false _ (r 10)) k
+  safe-written (create i j n) m k l r = L .new-safe i j n a m k
+  safe-written (release i j) m k l r = L .free-safe i j a m
+  safe-written (hand i j n p) m k l r = L .hand-safe i j n p a b m (not-false _ (r 10)) k l

@@ -13,21 +13,23 @@ use Rattle.rules.specs.Laws.{TagLaws}
 use Rattle.rules.proofs.Facts.{not-true, not-of, and-right, contra, either}
 use Rattle.rules.proofs.Hiding.{Guard, HidingLaws}
 
--- safe is who cannot add the tag; a run may hold any call
+-- safe is who cannot add the tag; no call is barred
 abbrev pub unaddable : (A : Labels) → A .Tag → Guard A
-unaddable A p = record { safe = λ i k s int r. not (A .has (r .ia) p); may = λ c. true }
+unaddable A p = record { safe = λ i k s int r. not (A .has (r .ia) p); bars = λ a c. false }
 
 module _ {A : Labels} (p : A .Tag) (G : TagLaws A p) where
   pub integrity-hides : HidingLaws (lacks A p) (unaddable A p)
   integrity-hides = record {
     flows = λ i j a b k l e f q. flows a b;
     adds = λ n q i a. add (eqb n 0) q a;
-    drops = λ n q i a r k. drop-tag (eqb n 0) q a;
-    add-safe = λ n q i a r k. k;
-    drop-safe = λ n q i a r k. k;
-    new-safe = λ i j n a m s. not-of (G .empty-has);
-    free-safe = λ i j m. not-of (G .empty-has);
-    hand-safe = λ i j n q a b m. hand-right n q a b;
+    drops = λ n q i a m r k. drop-tag (eqb n 0) q a;
+    stay = record {
+      add-safe = λ n q i a r k. k;
+      drop-safe = λ n q i a r k. k;
+      new-safe = λ i j n a m s. not-of (G .empty-has);
+      free-safe = λ i j a m. not-of (G .empty-has);
+      hand-safe = λ i j n q a b m. hand-right n q a b;
+    };
   }
     where
       flows : (a b : Slot A) → flow a b ≡ true → not (A .has (a .int) p) ≡ true → not (A .has (b .int) p) ≡ true

@@ -1,12 +1,14 @@
 -- A refusal has a listed number, and moves nothing; a part fits its buffer.
 -- Assumes nothing.
-use mathlib.Core.Path.{_≡_, refl}
+use mathlib.Core.Path.{_≡_, refl, _∙_}
 use mathlib.Core.Bool.{Bool, true, false, cond}
 use mathlib.Core.List.{List, []}
-use Prim.Native.Nat.{ℕ, _%_, _≤_}
+use Prim.Native.Nat.{ℕ, _-_, _%_, _≤_}
+use native.Mathlib.Nat.{add-sub-of-le}
 use native.Mathlib.Omega.{arith}
 use lib.Dec.{eqb}
-use lib.ListN.{length, length-append, length-drop}
+use lib.ListN.{length, getD, drop, length-append, length-drop}
+use lib.Seq.{getD-append-add, getD-drop}
 use borrow.Author.Tests.{ltb-false}
 use Rattle.rules.specs.declared.Outcome.{Outcome}
 use Rattle.rules.specs.declared.Outcome.the-variants.{Allowed, Refused}
@@ -26,6 +28,11 @@ empty-either false = refl
 -- a filled buffer keeps its length
 pub filled-length : (part buf : List ℕ) → length part ≤ length buf → length (filled part buf) ≡ length buf
 filled-length part buf h = simp (length-append, length-drop) (omega arith)
+
+-- and keeps what stands behind its front
+pub filled-rest : (part buf : List ℕ) (k : ℕ) → length part ≤ k → getD (filled part buf) k 0 ≡ getD buf k 0
+filled-rest part buf k h = rw (← add-sub-of-le h)
+    (getD-append-add part (drop (length part) buf) (k - length part) 0 ∙ getD-drop (length part) buf (k - length part) 0)
 
 module _ {A : Labels} (T : Tables A) where
   all-listed : (gs : List (A .Group)) (a b : Slot A) (c : Call A) → allNumbers listed (refusals gs a b c) ≡ true

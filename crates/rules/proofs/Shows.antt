@@ -10,16 +10,11 @@ use Rattle.rules.specs.Record.{needOf, movedBy, visible, answer}
 use Rattle.rules.specs.Laws.{OrderLaws}
 use Rattle.rules.specs.Claims.{RecordsShow}
 use lib.ListN.{length}
-use Rattle.rules.proofs.Facts.{and-left, and-right, both, iff}
+use Rattle.rules.proofs.Held.{join-below}
 
 module _ {A : Labels} (O : OrderLaws A) where
-  join-below : (a b c : A .Label) → A .below (A .join a b) c ≡ A .below a c && A .below b c
-  join-below a b c = iff (A .below (A .join a b) c) (A .below a c && A .below b c)
-      (λ h. both (A .below a c) (A .below b c) (O .below-trans a (A .join a b) c (O .join-left a b) h) (O .below-trans b (A .join a b) c (O .join-right a b) h))
-      (λ h. O .join-least a b c (and-left (A .below a c) _ h) (and-right (A .below a c) _ h))
-
   three-below : (a b c l : A .Label) → A .below (A .join (A .join a b) c) l ≡ A .below a l && (A .below b l && A .below c l)
-  three-below a b c l = rw (join-below (A .join a b) c l, join-below a b l) (assoc (A .below a l))
+  three-below a b c l = rw (join-below O (A .join a b) c l, join-below O a b l) (assoc (A .below a l))
     where
       assoc : (x : Bool) → x && A .below b l && A .below c l ≡ x && (A .below b l && A .below c l)
       assoc true = refl

@@ -8,7 +8,7 @@ use Prim.Native.Nat.{ℕ, _≤_, _<_}
 use native.Mathlib.Omega.{arith}
 use lib.Dec.{ltb, leb, eqb}
 use lib.ListN.{length}
-use borrow.Author.Tests.{eqb-true, ne-eqb, ltb-true, ltb-false, le-leb}
+use borrow.Author.Tests.{eqb-true, eq-eqb, ne-eqb, ltb-true, ltb-false, le-leb}
 use Rattle.rules.specs.declared.Kind.{Kind}
 use Rattle.rules.specs.declared.Kind.the-variants.{Free, Item, Program}
 use Rattle.rules.specs.declared.Outcome.{Outcome}
@@ -86,6 +86,7 @@ module _ {A : Labels} where
 
 -- what holds where a call is allowed
 pub record Pass {A : Labels} (T : Tables A) (t : T .Table) (c : Call A) : Type 0 where
+  pub allowed : verdict T t c ≡ Allowed
   pub formed : T .formed t ≡ true
   pub off : (n : ℕ) → condition n (refusals (T .groups t) (at T t (callerOf c)) (at T t (otherOf c)) c) ≡ false
 
@@ -97,7 +98,7 @@ module _ {A : Labels} (T : Tables A) where
       r = refusals (T .groups t) (at T t (callerOf c)) (at T t (otherOf c)) c
 
       go : (b : Bool) → T .formed t ≡ b → first (99 if not b else r) ≡ Allowed → Pass T t c
-      go true f q = record { formed = f; off = passed r q }
+      go true f q = record { allowed = e; formed = f; off = passed r q }
       go false f q = absurd (refused-not-allowed 99 q)
 
   -- a program stands in one of the 32 slots
@@ -144,6 +145,14 @@ module _ {A : Labels} (T : Tables A) where
         go : (b : Bool) → ltb i 32 ≡ b → cond b (T .slot (T .store t (target c) (writes t c)) i) free ≡ cond (eqb i (target c)) (writes t c) (cond b (T .slot t i) free)
         go true e = L .store-slot t (target c) (writes t c) (p .formed) k (writes-formed t c p) i (ltb-true i 32 e)
         go false e = let h : 32 ≤ i = ltb-false i 32 e in rw (ne-eqb i (target c) (λ q. omega (arith, k)))
+
+    -- the slots after an allowed call
+    pub step-at : (t : T .Table) (c : Call A) → Pass T t c → (i : ℕ) → at T (step T t c) i ≡ cond (eqb i (target c)) (writes t c) (at T t i)
+    step-at t c p i = rw (p .allowed) (stored-at t c p i)
+
+    -- its one slot holds what it writes
+    pub written-at : (t : T .Table) (c : Call A) → Pass T t c → at T (step T t c) (target c) ≡ writes t c
+    written-at t c p = step-at t c p (target c) ∙ rw (eq-eqb (target c) (target c) refl)
 
     -- the form is kept by every call
     pub step-formed : (t : T .Table) (c : Call A) → T .formed t ≡ true → T .formed (step T t c) ≡ true

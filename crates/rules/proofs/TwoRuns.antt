@@ -17,13 +17,13 @@ use Rattle.rules.specs.Table.{isFree, isProgram, Slot, Tables, at}
 use Rattle.rules.specs.Calls.{Call, put, show, send, fetch, addTag, dropTag, create, release, hand, fieldsOf, callerOf, otherOf, target, written, moved, movesContent, isShow, lent}
 use Rattle.rules.specs.Refusals.{first, numberOf, onAllowed, refusals, verdict, step}
 use Rattle.rules.specs.Record.{Answer, filled, recordOf, needOf, movedBy, answer}
-use Rattle.rules.specs.Runs.{Hidden, hides, SlotsAgree, TablesAgree, hiddenAt, struck, heard, final, kept}
+use Rattle.rules.specs.Runs.{Hidden, hides, SlotsAgree, TablesAgree, hiddenAt, struck, heard, final, kept, never}
 use Rattle.rules.specs.Laws.{OrderLaws, TableLaws}
 use Rattle.rules.specs.Claims.{RunsAlike}
 use Rattle.rules.proofs.Facts.{and-left, and-right}
 use Rattle.rules.proofs.Steps.{Pass, pass, writes, stored-at, step-formed, step-groups, step-all}
-use Rattle.rules.proofs.Unwinding.{every, Unwinding, Output, runs}
-use Rattle.rules.proofs.Hiding.{Guard, safely, HidingLaws, low, was, low-refusals, low-moved, low-written, struck-written, safe-written}
+use Rattle.rules.proofs.Unwinding.{Unwinding, Output, runs}
+use Rattle.rules.proofs.Hiding.{Guard, safely, SafeLaws, HidingLaws, low, was, low-refusals, low-moved, low-written, struck-written, safe-written}
 
 -- ---- slots that differ only in a hidden content look alike
 
@@ -79,6 +79,12 @@ pub record Alike {A : Labels} (T : Tables A) (H : Hidden A) (G : Guard A) (t u :
   pub slots : (i : ℕ) → low H i (at T t i) ≡ low H i (at T u i)
   pub safe : (i : ℕ) → safely G i (at T t i) ≡ true
 
+-- slots that are safe are so after a call that is not barred
+pub step-safe : {A : Labels} (T : Tables A) (O : OrderLaws A) (L : TableLaws T) (G : Guard A) (W : SafeLaws G) (t : T .Table) (c : Call A)
+    → (Pass T t c → G .bars (at T t (callerOf c)) c ≡ false) → ((i : ℕ) → safely G i (at T t i) ≡ true) → (i : ℕ) → safely G i (at T (step T t c) i) ≡ true
+step-safe T O L G W t c m s = step-all T O L (λ i e. safely G i e ≡ true) t c
+    (λ p. safe-written (T .groups t) (at T t (callerOf c)) (at T t (otherOf c)) G W c (m p) (s (callerOf c)) (s (otherOf c)) (p .off)) s
+
 module _ {A : Labels} (T : Tables A) (O : OrderLaws A) (L : TableLaws T) (H : Hidden A) (G : Guard A) (W : HidingLaws H G) where
   safe-right : (t u : T .Table) → Alike T H G t u → (i : ℕ) → safely G i (at T u i) ≡ true
   safe-right t u a i = ap (λ (e : Slot A). safely G i e) (sym (a .slots i)) ∙ a .safe i
@@ -88,11 +94,14 @@ module _ {A : Labels} (T : Tables A) (O : OrderLaws A) (L : TableLaws T) (H : Hi
 
   -- ---- a call on each of two tables that look alike
 
-  step-safe : (t : T .Table) (c : Call A) → G .may c ≡ true → ((i : ℕ) → safely G i (at T t i) ≡ true) → (i : ℕ) → safely G i (at T (step T t c) i) ≡ true
-  step-safe t c m s = step-all T O L (λ i e. safely G i e ≡ true) t c
-      (λ p. safe-written H (T .groups t) (at T t (callerOf c)) (at T t (otherOf c)) G W c m (s (callerOf c)) (s (otherOf c)) (p .off)) s
+  -- a barred call
+  abbrev pub barredAt : T .Table → Call A → Bool
+  barredAt t c = onAllowed (verdict T t c) (G .bars (at T t (callerOf c)) c) false
 
-  pub after-struck : (t u : T .Table) (c : Call A) → G .may c ≡ true → Alike T H G t u → struck T H t c ≡ true → Alike T H G (step T t c) u
+  not-barred : (t : T .Table) (c : Call A) → barredAt t c ≡ false → Pass T t c → G .bars (at T t (callerOf c)) c ≡ false
+  not-barred t c m p = rw (p .allowed) at m
+
+  pub after-struck : (t u : T .Table) (c : Call A) → barredAt t c ≡ false → Alike T H G t u → struck T H t c ≡ true → Alike T H G (step T t c) u
   after-struck t u c m a h = record {
     left = step-formed T O L t c (a .left);
     right = a .right;
@@ -100,10 +109,10 @@ module _ {A : Labels} (T : Tables A) (O : OrderLaws A) (L : TableLaws T) (H : Hi
     slots = step-all T O L (λ i e. low H i e ≡ low H i (at T u i)) t c
         (λ p. struck-written H (T .groups t) (at T t (callerOf c)) (at T t (otherOf c)) G W c (a .safe (callerOf c)) (a .safe (otherOf c)) h (p .off)
         ∙ ap (low H (target c)) (was-target T t c) ∙ a .slots (target c)) (a .slots);
-    safe = step-safe t c m (a .safe);
+    safe = step-safe T O L G (W .stay) t c (not-barred t c m) (a .safe);
   }
 
-  module _ (t u : T .Table) (c : Call A) (m : G .may c ≡ true) (a : Alike T H G t u) (h : struck T H t c ≡ false) (g : struck T H u c ≡ false) where
+  module _ (t u : T .Table) (c : Call A) (m : barredAt t c ≡ false) (n : barredAt u c ≡ false) (a : Alike T H G t u) (h : struck T H t c ≡ false) (g : struck T H u c ≡ false) where
     x : Slot A
     x = at T t (callerOf c)
 
@@ -134,9 +143,9 @@ module _ {A : Labels} (T : Tables A) (O : OrderLaws A) (L : TableLaws T) (H : Hi
     written-alike : Pass T t c → Pass T u c → low H (target c) (writes T t c) ≡ low H (target c) (writes T u c)
     unfolding x y x′ y′
     written-alike p q =
-        sym (low-written H (T .groups t) x y G W c (a .safe (callerOf c)) (a .safe (otherOf c)) h (p .off))
+        sym (low-written H (T .groups t) x y G W c (not-barred t c m p) (a .safe (callerOf c)) (a .safe (otherOf c)) h (p .off))
         ∙ looks (λ v w. low H (target c) (written v w c))
-        ∙ low-written H (T .groups u) x′ y′ G W c (safe-right t u a (callerOf c)) (safe-right t u a (otherOf c)) g (q .off)
+        ∙ low-written H (T .groups u) x′ y′ G W c (not-barred u c n q) (safe-right t u a (callerOf c)) (safe-right t u a (otherOf c)) g (q .off)
 
     moved-alike : movedBy T t c ≡ movedBy T u c
     unfolding x y x′ y′
@@ -172,7 +181,7 @@ module _ {A : Labels} (T : Tables A) (O : OrderLaws A) (L : TableLaws T) (H : Hi
       right = step-formed T O L u c (a .right);
       groups = step-groups T O L t c ∙ a .groups ∙ sym (step-groups T O L u c);
       slots = step-slots;
-      safe = step-safe t c m (a .safe);
+      safe = step-safe T O L G (W .stay) t c (not-barred t c m) (a .safe);
     }
 
     sec-alike : (v w : T .Table) → ((i : ℕ) → low H i (at T v i) ≡ low H i (at T w i)) → (i : ℕ) → at T v i .sec ≡ at T w i .sec
@@ -196,7 +205,7 @@ module _ {A : Labels} (T : Tables A) (O : OrderLaws A) (L : TableLaws T) (H : Hi
   unwinding = record {
     Alike = Alike T H G;
     struck = struck T H;
-    may = G .may;
+    barred = barredAt;
     swap = alike-swap;
     after-struck = after-struck;
     after-other = after-other;
@@ -214,12 +223,12 @@ module _ {A : Labels} (T : Tables A) (O : OrderLaws A) (L : TableLaws T) (H : Hi
   pub heard-alike : Output unwinding (heard T H)
   heard-alike = record {
     none = λ t u c m a h. rw (struck-heard t c h);
-    same = λ t u c m a h g. let s = a .slots (callerOf c) in let r = answer-alike t u c m a h g in
+    same = λ t u c m n a h g. let s = a .slots (callerOf c) in let r = answer-alike t u c m n a h g in
         λ z. cond (not (isFree (s z .kind)) && hides H (callerOf c) (s z)) [] (r z ∷ []);
   }
 
   -- both claims of two runs but the audits, from tables that look alike
-  pub runs-alike : (t u : T .Table) (cs ds : List (Call A)) → every (G .may) cs ≡ true → every (G .may) ds ≡ true → Alike T H G t u
+  pub runs-alike : (t u : T .Table) (cs ds : List (Call A)) → never (step T) barredAt t cs ≡ true → never (step T) barredAt u ds ≡ true → Alike T H G t u
       → kept (step T) (struck T H) t cs ≡ kept (step T) (struck T H) u ds → RunsAlike T H t u cs ds
   runs-alike t u cs ds m n a k =
       let r = runs unwinding (heard T H) heard-alike t u cs ds m n a k in

@@ -1,17 +1,20 @@
 -- Document 01, 'When a call is turned down', read by number: the condition of each refusal over all calls, in that list's
--- order and words. The cascades in Refusals say the same call by call.
+-- order and words. The cascades in Refusals say the same call by call. And what else goes by a number: the kinds of the calls
+-- that move content, the numbers that are listed at all, the calls whose need is empty, the bytes of a record.
 -- Assumes nothing.
 use mathlib.Core.Path.{_≡_}
-use mathlib.Core.Bool.{Bool, false, not, _&&_, _||_}
-use mathlib.Core.List.{List, [], _∷_}
+use mathlib.Core.Bool.{Bool, true, false, cond, not, _&&_, _||_}
+use mathlib.Core.List.{List, [], _∷_, _++_}
 use mathlib.Core.Option.{Option, none, some}
-use Prim.Native.Nat.{ℕ}
+use Prim.Native.Nat.{ℕ, zero, suc}
 use lib.Dec.{ltb, eqb}
-use lib.ListN.{length}
+use lib.ListN.{length, getD, drop}
 use Rattle.rules.specs.Labels.{Labels}
-use Rattle.rules.specs.Table.{isFree, isItem, Rights, Slot, Tables, flow, keepsAll, at}
-use Rattle.rules.specs.Calls.{Call, send, fetch, withRights, fieldsOf, kindOf, callerOf, otherOf, addRight, dropRight, rightAt, moved, lent, written}
-use Rattle.rules.specs.Refusals.{Refusals, allow, _if_else_, first, refusals, verdict}
+use Rattle.rules.specs.Table.{isFree, isItem, isProgram, Rights, Slot, Tables, flow, keepsAll, at}
+use Rattle.rules.specs.Calls.{Call, send, fetch, withRights, fieldsOf, kindOf, callerOf, otherOf, addRight, dropRight, rightAt, moved, movesContent, isShow, lent, written}
+use Rattle.rules.specs.Refusals.{Refusals, allow, _if_else_, first, numberOf, refusals, verdict}
+use Rattle.rules.specs.Record.{needOf, movedBy, answer}
+use Rattle.rules.specs.Claims.{listed, auditListed}
 
 -- one of these kinds of call: 1 put, 2 show, 3 send, 4 fetch, 5 add, 6 drop, 7 create, 8 release, 9 hand
 abbrev pub among : List ℕ → ℕ → Bool
@@ -69,3 +72,45 @@ pub record RightsUnasked (A : Labels) (gs : List (A .Group)) (a b : Slot A) (r s
 
 abbrev pub FlowIgnoresRights : Labels → Type 0
 FlowIgnoresRights A = (gs : List (A .Group)) (a b : Slot A) (r s : Rights A) (i j : ℕ) → RightsUnasked A gs a b r s i j
+
+-- Kinds 1 to 4 move content, 2 shows
+pub record ByKind {A : Labels} (c : Call A) : Type 0 where
+  pub moves : movesContent c ≡ among (1 ∷ 2 ∷ 3 ∷ 4 ∷ []) (kindOf c)
+  pub shows : isShow c ≡ eqb (kindOf c) 2
+
+abbrev pub KindsMove : Labels → Type 0
+KindsMove A = (c : Call A) → ByKind c
+
+-- the numbers below k that pass a test
+unfoldable pub passing : ℕ → (ℕ → Bool) → List ℕ
+passing zero f = []
+passing (suc k) f = passing k f ++ cond (f k) (k ∷ []) []
+
+-- The numbers that a record's byte can hold and that are listed for calls, and for audits
+pub record NumbersListed : Type 0 where
+  pub calls : passing 256 listed ≡ 1 ∷ 2 ∷ 3 ∷ 4 ∷ 5 ∷ 6 ∷ 7 ∷ 8 ∷ 9 ∷ 10 ∷ 11 ∷ 99 ∷ []
+  pub audits : passing 256 auditListed ≡ 1 ∷ 12 ∷ 13 ∷ 99 ∷ []
+
+-- A record's number is 1 or 99 exactly where the table lacks the form or the caller is no program; its need is then empty
+pub record Needless {A : Labels} (T : Tables A) (t : T .Table) (c : Call A) : Type 0 where
+  pub number : among (1 ∷ 99 ∷ []) (getD (answer T t c .entry) 3 0) ≡ not (T .formed t && isProgram (at T t (callerOf c) .kind))
+  pub need : among (1 ∷ 99 ∷ []) (getD (answer T t c .entry) 3 0) ≡ true → drop 8 (answer T t c .entry) ≡ A .tail (fieldsOf c .tag) (A .empty)
+
+abbrev pub NeedlessByNumber : {A : Labels} → Tables A → Type 0
+NeedlessByNumber {A} T = (t : T .Table) (c : Call A) → Needless T t c
+
+-- A record by its bytes: 0 kind, 1 caller, 2 other, 3 the number returned, 4 bytes moved, 5 tag, 6 set field, 7 zero, from 8 on the
+-- need
+pub record Bytes {A : Labels} (T : Tables A) (t : T .Table) (c : Call A) : Type 0 where
+  pub byte-0 : getD (answer T t c .entry) 0 0 ≡ kindOf c
+  pub byte-1 : getD (answer T t c .entry) 1 0 ≡ callerOf c
+  pub byte-2 : getD (answer T t c .entry) 2 0 ≡ otherOf c
+  pub byte-3 : getD (answer T t c .entry) 3 0 ≡ numberOf (verdict T t c)
+  pub byte-4 : getD (answer T t c .entry) 4 0 ≡ length (movedBy T t c)
+  pub byte-5 : getD (answer T t c .entry) 5 0 ≡ A .byte5 (fieldsOf c .tag) (needOf T t c)
+  pub byte-6 : getD (answer T t c .entry) 6 0 ≡ fieldsOf c .set
+  pub byte-7 : getD (answer T t c .entry) 7 0 ≡ 0
+  pub from-8 : drop 8 (answer T t c .entry) ≡ A .tail (fieldsOf c .tag) (needOf T t c)
+
+abbrev pub RecordBytes : {A : Labels} → Tables A → Type 0
+RecordBytes {A} T = (t : T .Table) (c : Call A) → Bytes T t c

@@ -9,10 +9,10 @@ use lib.ListN.{length, getD}
 use Rattle.rules.specs.declared.Outcome.the-variants.{Refused}
 use Rattle.rules.specs.Labels.{Labels}
 use Rattle.rules.specs.Table.{isProgram, Tables, at, accepted}
-use Rattle.rules.specs.Calls.{Call, callerOf, otherOf, lent}
+use Rattle.rules.specs.Calls.{Call, kindOf, callerOf, otherOf, lent}
 use Rattle.rules.specs.Refusals.{verdict, step}
 use Rattle.rules.specs.Record.{answer, visible, audit}
-use Rattle.rules.specs.Runs.{Hidden, bears, final, trace, kept, TablesAgree, hiddenAt, struck, heard, records}
+use Rattle.rules.specs.Runs.{Hidden, bears, final, trace, kept, never, TablesAgree, hiddenAt, struck, heard, records}
 
 -- the numbers of a call's refusals, 1 to 11 and 99, and of an audit's
 abbrev pub listed : ℕ → Bool
@@ -104,3 +104,23 @@ module _ {A : Labels} (T : Tables A) where
 
   abbrev pub Secrecy : A .Tag → Type 0
   Secrecy p = (t u : T .Table) (cs ds : List (Call A)) → SecretRuns p t u cs ds → Undisclosed p t u cs ds
+
+  -- ---- Demand 3 whatever rights there are
+
+  -- an allowed drop of the tag from S, in the table that the call gets: a call of kind 6 that takes it from its caller
+  abbrev pub dropsTag : A .Tag → T .Table → Call A → Bool
+  dropsTag p t c = eqb (kindOf c) 6 && (A .has (at T t (callerOf c) .sec) p && not (A .has (at T (step T t c) (callerOf c) .sec) p))
+
+  -- As in SecretRuns, but programs may have and hand on the right to drop the tag: only, no allowed drop of it from S is in either
+  -- run
+  pub record UndroppedRuns (p : A .Tag) (t u : T .Table) (cs ds : List (Call A)) : Type 0 where
+    pub left : accepted T t ≡ true
+    pub right : accepted T u ≡ true
+    pub undropped-left : never (step T) (dropsTag p) t cs ≡ true
+    pub undropped-right : never (step T) (dropsTag p) u ds ≡ true
+    pub tables : TablesAgree T (bears A p) t u
+    pub calls : kept (step T) (struck T (bears A p)) t cs ≡ kept (step T) (struck T (bears A p)) u ds
+
+  -- Changes of labels are explicit (003, 3.4.2): a right that is not used discloses nothing. Secrecy follows from it
+  abbrev pub SecrecyUndropped : A .Tag → Type 0
+  SecrecyUndropped p = (t u : T .Table) (cs ds : List (Call A)) → UndroppedRuns p t u cs ds → Undisclosed p t u cs ds

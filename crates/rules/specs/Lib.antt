@@ -7,4 +7,8 @@ pub mod Record
 pub mod Runs
 pub mod Claims
 pub mod ByNumber
+pub mod SameSlots
+pub mod Held
+pub mod Effects
+pub mod Audits
 pub mod Laws

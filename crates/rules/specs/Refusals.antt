@@ -1,6 +1,6 @@
 -- Document 01, 'When a call is turned down': the refusals of each call in order, and the table after a call.
 -- Assumes nothing.
-use mathlib.Core.Bool.{Bool, cond, not, _&&_, _||_}
+use mathlib.Core.Bool.{Bool, true, false, cond, not, _&&_, _||_}
 use mathlib.Core.List.{List}
 use Prim.Native.Nat.{ℕ}
 use lib.Dec.{ltb, eqb}
@@ -30,6 +30,9 @@ numberOf (Refused n) = n
 abbrev pub onAllowed {ℓ} : {X : Type ℓ} → Outcome → X → X → X
 onAllowed Allowed x y = x
 onAllowed (Refused n) x y = y
+
+abbrev pub isAllowed : Outcome → Bool
+isAllowed v = onAllowed v true false
 
 module _ {A : Labels} where
   -- A call's own refusals, where a is the caller's slot and b the other's; `at` makes a slot above 31 a free one

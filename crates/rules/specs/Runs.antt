@@ -1,7 +1,7 @@
 -- Document 01, 'Two runs': runs, what is hidden, the calls that may differ, and what callers hear.
 -- Assumes nothing.
 use mathlib.Core.Path.{_≡_}
-use mathlib.Core.Bool.{Bool, false, cond, not, _&&_}
+use mathlib.Core.Bool.{Bool, true, false, cond, not, _&&_}
 use mathlib.Core.List.{List, [], _∷_, _++_}
 use Prim.Native.Nat.{ℕ}
 use Rattle.rules.specs.Labels.{Labels}
@@ -27,6 +27,11 @@ module _ {S E : Type 0} (after : S → E → S) where
   abbrev pub kept : (S → E → Bool) → S → List E → List E
   kept struck s [] = []
   kept struck s (e ∷ es) = cond (struck s e) (kept struck (after s e) es) (e ∷ kept struck (after s e) es)
+
+  -- no event of a run passes a test, in the state that it gets
+  abbrev pub never : (S → E → Bool) → S → List E → Bool
+  never f s [] = true
+  never f s (e ∷ es) = not (f s e) && never f (after s e) es
 
 -- ---- what is hidden
 

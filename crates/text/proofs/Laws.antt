@@ -16,7 +16,7 @@ use borrow.Author.Tests.{eq-eqb, ne-eqb, lt-ltb, le-ltb, le-leb, lt-leb, ltb-tru
 use Rattle.label.specs.declared.Label.{Label}
 use Rattle.label.specs.Tags.{empty, withDigit}
 use Rattle.text.specs.Bytes.{eqBytes, indexOf, digitOf, decimalFrom, decimalOf, setFrom, hexSetOf, pairsFrom, dataOf, dash}
-use Rattle.text.specs.Lines.{Lines, done, cut, line, before, linesOf, lineEnd, lineAt, nextLine, ahead, fieldsIn, hasName, hasNames, under}
+use Rattle.text.specs.Lines.{Lines, done, cut, line, before, linesOf, lineEnd, lineAt, nextLine}
 use Rattle.text.specs.Answers.{room, noRoom}
 
 -- what is left of a list at a place before its end: that element, and what is left at the next place
@@ -178,38 +178,6 @@ unfolding indexOf
 index-le b [] = omega arith
 index-le b (x ∷ xs) = index-le-by b x xs (eqb x b) refl (index-le b xs)
 
--- a line's first field and those after it
-abbrev Fields : List ℕ → Type 0
-Fields s = indexOf 32 s < length s → fieldsIn s ≡ take (indexOf 32 s) s ∷ fieldsIn (drop (suc (indexOf 32 s)) s)
-
-fields-by : (b : ℕ) (bs : List ℕ) (t : Bool) → eqb b 32 ≡ t → Fields bs → Fields (b ∷ bs)
-unfolding fieldsIn ahead
-fields-by b bs true e r h = rw (index-here 32 b bs e, e)
-fields-by b bs false e r h =
-    let k : suc (indexOf 32 bs) < suc (length bs) = rw (index-next 32 b bs e) at h in
-    rw (index-next 32 b bs e, e, r (omega arith))
-
-pub fields-more : (s : List ℕ) → Fields s
-fields-more [] h = absurd (omega arith)
-fields-more (b ∷ bs) h = fields-by b bs (eqb b 32) refl (fields-more bs) h
-
-abbrev Field : List ℕ → Type 0
-Field s = length s ≤ indexOf 32 s → fieldsIn s ≡ s ∷ []
-
-field-by : (b : ℕ) (bs : List ℕ) (t : Bool) → eqb b 32 ≡ t → Field bs → Field (b ∷ bs)
-unfolding fieldsIn ahead
-field-by b bs true e r h =
-    let k : suc (length bs) ≤ 0 = rw (index-here 32 b bs e) at h in
-    absurd (omega arith)
-field-by b bs false e r h =
-    let k : suc (length bs) ≤ suc (indexOf 32 bs) = rw (index-next 32 b bs e) at h in
-    rw (e, r (omega arith))
-
-pub fields-one : (s : List ℕ) → Field s
-unfolding fieldsIn
-fields-one [] h = refl
-fields-one (b ∷ bs) h = field-by b bs (eqb b 32) refl (fields-one bs) h
-
 -- a text's first line and those after it
 abbrev LineMore : List ℕ → Type 0
 LineMore s = indexOf 10 s < length s → linesOf s ≡ line (take (indexOf 10 s) s) (linesOf (drop (suc (indexOf 10 s)) s))
@@ -246,99 +214,6 @@ cut-by b (a ∷ bs) false e r z h =
 pub lines-cut : (s : List ℕ) → LineCut s
 lines-cut [] z h = absurd (omega arith)
 lines-cut (b ∷ bs) z h = cut-by b bs (eqb b 10) refl (lines-cut bs) z h
-
--- the fields after a line's first
-restOf : List ℕ → List (List ℕ)
-restOf s = cond (ltb (indexOf 32 s) (length s)) (fieldsIn (drop (suc (indexOf 32 s)) s)) []
-
-rest-more : (s : List ℕ) → indexOf 32 s < length s → restOf s ≡ fieldsIn (drop (suc (indexOf 32 s)) s)
-unfolding restOf
-rest-more s h = rw (lt-ltb _ _ h)
-
-rest-none : (s : List ℕ) → length s ≤ indexOf 32 s → restOf s ≡ []
-unfolding restOf
-rest-none s h = rw (le-ltb _ _ h)
-
-first-by : (s : List ℕ) → (indexOf 32 s < length s) ⊎ (length s ≤ indexOf 32 s) → fieldsIn s ≡ take (indexOf 32 s) s ∷ restOf s
-first-by s (inl h) = fields-more s h ∙ rw (rest-more s h)
-first-by s (inr h) = fields-one s h ∙ rw (rest-none s h, take-all (indexOf 32 s) s h)
-
-split : (a b : ℕ) → (b < a) ⊎ (a ≤ b)
-split a b = elim (decLe a b) [ yes p ↦ inr p | no q ↦ inl (omega arith) ]
-
-fields-first : (s : List ℕ) → fieldsIn s ≡ take (indexOf 32 s) s ∷ restOf s
-fields-first s = first-by s (split (length s) (indexOf 32 s))
-
-under-nil : (name : List ℕ) (hs : List (List ℕ)) → under name hs [] ≡ []
-unfolding under
-under-nil name [] = refl
-under-nil name (h ∷ hs) = refl
-
-module _ (name h f : List ℕ) (i j : ℕ) (ei : i ≡ indexOf 32 h) (ej : j ≡ indexOf 32 f) where
-  pub under-hit : eqBytes (take i h) name ≡ true → under name (fieldsIn h) (fieldsIn f) ≡ take j f
-  unfolding under
-  under-hit e = rw (fields-first h, fields-first f, ← ei, ← ej, e)
-
-  module _ (e : eqBytes (take i h) name ≡ false) where
-    pub under-last : length h ≤ i → under name (fieldsIn h) (fieldsIn f) ≡ []
-    unfolding under
-    under-last l = rw (fields-first h, fields-first f, ← ei, e, rest-none h (omega arith))
-
-    pub under-short : length f ≤ j → under name (fieldsIn h) (fieldsIn f) ≡ []
-    unfolding under
-    under-short l = rw (fields-first h, fields-first f, ← ei, e, rest-none f (omega arith)) (under-nil name (restOf h))
-
-    pub under-next : i < length h → j < length f → under name (fieldsIn h) (fieldsIn f) ≡ under name (fieldsIn (drop (i + 1) h)) (fieldsIn (drop (j + 1) f))
-    unfolding under
-    under-next l k =
-        rw (fields-first h, fields-first f, add-one i, add-one j, rest-more h (omega arith), rest-more f (omega arith), ← ei, ← ej, e)
-
-module _ (name h : List ℕ) (i : ℕ) (ei : i ≡ indexOf 32 h) where
-  pub has-hit : eqBytes (take i h) name ≡ true → hasName name (fieldsIn h) ≡ true
-  unfolding hasName
-  has-hit e = rw (fields-first h, ← ei, e)
-
-  module _ (e : eqBytes (take i h) name ≡ false) where
-    pub has-last : length h ≤ i → hasName name (fieldsIn h) ≡ false
-    unfolding hasName
-    has-last l = rw (fields-first h, ← ei, e, rest-none h (omega arith))
-
-    pub has-next : i < length h → hasName name (fieldsIn h) ≡ hasName name (fieldsIn (drop (i + 1) h))
-    unfolding hasName
-    has-next l = rw (fields-first h, add-one i, rest-more h (omega arith), ← ei, e)
-
-module _ (hs : List (List ℕ)) (n : List ℕ) (i : ℕ) (ei : i ≡ indexOf 32 n) where
-  pub all-miss : hasName (take i n) hs ≡ false → hasNames (fieldsIn n) hs ≡ false
-  unfolding hasNames
-  all-miss e = rw (fields-first n, hasNames, ← ei, e)
-
-  module _ (e : hasName (take i n) hs ≡ true) where
-    pub all-last : length n ≤ i → hasNames (fieldsIn n) hs ≡ true
-    unfolding hasNames
-    all-last l = rw (fields-first n, hasNames, ← ei, e, rest-none n (omega arith), hasNames)
-
-    pub all-next : i < length n → hasNames (fieldsIn n) hs ≡ hasNames (fieldsIn (drop (i + 1) n)) hs
-    unfolding hasNames
-    all-next l = rw (fields-first n, hasNames, add-one i, rest-more n (omega arith), ← ei, e)
-
--- how many fields
-length-ahead : (b : ℕ) (fs : List (List ℕ)) → length (ahead b fs) ≡ length fs
-unfolding ahead
-length-ahead b [] = refl
-length-ahead b (f ∷ fs) = refl
-
-module _ (s : List ℕ) (i : ℕ) where
-  pub count-end : length s ≤ i → length (fieldsIn (drop i s)) ≡ 1
-  unfolding fieldsIn
-  count-end h = rw (at-end s i h)
-
-  pub count-space : i < length s → getD s i 0 ≡ 32 → length (fieldsIn (drop i s)) ≡ suc (length (fieldsIn (drop (i + 1) s)))
-  unfolding fieldsIn
-  count-space h e = rw (step s i h, fieldsIn, eq-eqb _ _ e)
-
-  pub count-other : i < length s → (getD s i 0 ≡ 32 → ⊥) → length (fieldsIn (drop i s)) ≡ length (fieldsIn (drop (i + 1) s))
-  unfolding fieldsIn
-  count-other h e = rw (step s i h, fieldsIn, ne-eqb _ _ e) (length-ahead _ _)
 
 -- pairsFrom
 module _ (max : ℕ) (bs s : List ℕ) (i : ℕ) where

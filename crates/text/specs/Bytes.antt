@@ -8,6 +8,7 @@ use lib.ListN.{length}
 use lib.Dec.{eqb, leb, ltb}
 use Rattle.label.specs.declared.Label.{Label}
 use Rattle.label.specs.Tags.{empty, withDigit}
+use Rattle.text.specs.Ascii.{ascii}
 
 -- whether two byte strings are the same
 unfoldable pub eqBytes : List ℕ → List ℕ → Bool
@@ -52,7 +53,7 @@ hexSetOf s = cond (leb 1 (length s) && leb (length s) 16) (setFrom empty s) none
 -- ---- data: `-` for empty, or two digits a byte, up to max bytes
 
 abbrev pub dash : List ℕ
-dash = 45 ∷ []
+dash = ascii "-"
 
 -- pairs of digits after those of the bytes bs
 unfoldable pub pairsFrom : ℕ → List ℕ → List ℕ → Option (List ℕ)

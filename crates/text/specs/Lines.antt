@@ -1,9 +1,9 @@
 -- Document 01, 'The text': its lines, the fields of a line, and the field that stands under a name.
 -- Assumes nothing.
-use Prim.Native.Nat.{ℕ, _+_}
+use Prim.Native.Nat.{ℕ, suc, _+_}
 use mathlib.Core.Bool.{Bool, true, false, cond, _&&_}
 use mathlib.Core.List.{List, [], _∷_}
-use lib.ListN.{length, take, drop}
+use lib.ListN.{length, getD, take, drop}
 use lib.Dec.{eqb, ltb}
 use Rattle.text.specs.Bytes.{eqBytes, indexOf}
 
@@ -47,24 +47,22 @@ unfoldable pub fieldsIn : List ℕ → List (List ℕ)
 fieldsIn [] = [] ∷ []
 fieldsIn (b ∷ bs) = cond (eqb b 32) ([] ∷ fieldsIn bs) (ahead b (fieldsIn bs))
 
+-- the field of a row in a column; where there is none, the empty field, which no column allows
+abbrev pub fieldAt : List (List ℕ) → ℕ → List ℕ
+fieldAt fs k = getD fs k []
+
 -- ---- names in any order, each once
 
--- whether a name is among the names of a line
-unfoldable pub hasName : List ℕ → List (List ℕ) → Bool
-hasName name [] = false
-hasName name (h ∷ hs) = cond (eqBytes h name) true (hasName name hs)
+-- the column of a name in a line of names; how many there are, where it is not among them
+unfoldable pub columnOf : List ℕ → List (List ℕ) → ℕ
+columnOf name [] = 0
+columnOf name (h ∷ hs) = cond (eqBytes h name) 0 (suc (columnOf name hs))
 
--- whether each of the names is
+-- whether each of the names has a column
 unfoldable pub hasNames : List (List ℕ) → List (List ℕ) → Bool
 hasNames [] hs = true
-hasNames (n ∷ ns) hs = hasName n hs && hasNames ns hs
+hasNames (n ∷ ns) hs = ltb (columnOf n hs) (length hs) && hasNames ns hs
 
--- as many fields as there are names, and each name among them
+-- as many columns as there are names, and one for each
 unfoldable pub namesOnce : List (List ℕ) → List (List ℕ) → Bool
 namesOnce ns hs = eqb (length hs) (length ns) && hasNames ns hs
-
--- the field under a name; where the name or the field is missing, the empty field, which no column allows
-unfoldable pub under : List ℕ → List (List ℕ) → List (List ℕ) → List ℕ
-under name [] fs = []
-under name (h ∷ hs) [] = []
-under name (h ∷ hs) (f ∷ fs) = cond (eqBytes h name) f (under name hs fs)

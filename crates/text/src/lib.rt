@@ -3,11 +3,10 @@ ghost use mathlib.Core.Path.{_≡_};
 ghost use Prim.Native.Nat.{_+_, _*_, _<_};
 ghost use mathlib.Core.List.{[]};
 ghost use mathlib.Core.Option.{none, some};
-ghost use lib.ListN.{length};
 ghost use Rattle.label.specs.Tags.{empty};
 ghost use Rattle.text.specs.Bytes.{eqBytes, indexOf, digitOf, decimalFrom, decimalOf, setFrom, hexSetOf, pairsFrom, dataOf};
-ghost use Rattle.text.specs.Lines.{lineEnd, lineAt, nextLine, fieldsIn, hasName, hasNames, namesOnce, under};
-ghost use Rattle.text.specs.Answers.{asNumber, asTags, asData, noRoom};
+ghost use Rattle.text.specs.Lines.{lineEnd, lineAt, nextLine, fieldsIn, columnOf, namesOnce};
+ghost use Rattle.text.specs.Answers.{asNumber, asTags, asData, noRoom, noStarts, splitOf, fieldBy};
 use label::Label;
 
 // What a field of decimal digits says.
@@ -226,54 +225,91 @@ pub fn data_field(s: &[u8], max: u8) -> Data
     pairs(s, max)
 }
 
-// The field of a row that stands under a name of the header.
-pub fn value<'a>(header: &[u8], row: &'a [u8], name: &[u8]) -> &'a [u8]
-    ensures { λ r. ⌜ now r ≡ under (now (name .entry)) (fieldsIn (now (header .entry))) (fieldsIn (now (row .entry))) ⌝ }
+// The column of a name in a line of names; how many there are, where it is not among them.
+pub fn column(line: &[u8], name: &[u8]) -> usize
+    ensures { λ r. ⌜ r ≡ columnOf (now (name .entry)) (fieldsIn (now (line .entry))) ⌝ }
 {
-    let mut h = header;
-    let mut f = row;
-    loop {
-        let i = index_of(h, 32);
-        let j = index_of(f, 32);
-        if same(&h[..i], name) {
-            return &f[..j];
-        }
-        if h.len() <= i {
-            return &f[..0];
-        }
-        if f.len() <= j {
-            return &f[..0];
-        }
-        h = &h[i + 1..];
-        f = &f[j + 1..];
-    }
-}
-
-// Whether a name is among the names of a header.
-pub fn has(header: &[u8], name: &[u8]) -> bool
-    ensures { λ r. ⌜ r ≡ hasName (now (name .entry)) (fieldsIn (now (header .entry))) ⌝ }
-{
-    let mut h = header;
+    let mut k: usize = 0;
+    let mut h = line;
     loop {
         let i = index_of(h, 32);
         if same(&h[..i], name) {
-            return true;
+            return k;
         }
+        k += 1;
         if h.len() <= i {
-            return false;
+            return k;
         }
         h = &h[i + 1..];
     }
 }
 
-// Whether each of the names, with a space between them, is among the names of a header.
-fn has_all(header: &[u8], names: &[u8]) -> bool
-    ensures { λ r. ⌜ r ≡ hasNames (fieldsIn (now (names .entry))) (fieldsIn (now (header .entry))) ⌝ }
+// Where the fields of a row start, the first 15, and where one more would; and how many there are.
+pub struct Starts {
+    pub at: [usize; 16],
+    pub count: usize,
+}
+
+fn no_starts() -> [usize; 16]
+    ensures { λ r. ⌜ r ≡ noStarts ⌝ }
 {
+    [0usize; 16]
+}
+
+// Splits a row into its fields.
+pub fn split(row: &[u8]) -> Starts
+    ensures { λ r. ⌜ r ≡ splitOf (now (row .entry)) ⌝ }
+{
+    let mut starts = no_starts();
+    let mut n: usize = 0;
+    let mut at: usize = 0;
+    while at <= row.len() {
+        at = at + index_of(&row[at..], 32) + 1;
+        n += 1;
+        if n < 16 {
+            starts[n] = at;
+        }
+    }
+    Starts {
+        at: starts,
+        count: n,
+    }
+}
+
+// The field of a row in a column, by where the row's fields start.
+pub fn field<'a>(row: &'a [u8], starts: &[usize; 16], k: usize) -> &'a [u8]
+    ensures { λ r. ⌜ now r ≡ fieldBy (now (row .entry)) (now (starts .entry)) k ⌝ }
+{
+    if 15 <= k {
+        return &row[..0];
+    }
+    let a = starts[k];
+    let b = starts[k + 1];
+    if b <= a {
+        return &row[..0];
+    }
+    if row.len() <= a {
+        return &row[..0];
+    }
+    if row.len() < b {
+        return &row[a..];
+    }
+    &row[a..b - 1]
+}
+
+// Whether a line is a header of the names, with a space between them: each once, in any order.
+pub fn is_header(line: &[u8], names: &[u8]) -> bool
+    ensures { λ r. ⌜ r ≡ namesOnce (fieldsIn (now (names .entry))) (fieldsIn (now (line .entry))) ⌝ }
+{
+    let s = split(line);
+    let wanted = split(names);
+    if s.count != wanted.count {
+        return false;
+    }
     let mut n = names;
     loop {
         let i = index_of(n, 32);
-        if !has(header, &n[..i]) {
+        if s.count <= column(line, &n[..i]) {
             return false;
         }
         if n.len() <= i {
@@ -281,28 +317,6 @@ fn has_all(header: &[u8], names: &[u8]) -> bool
         }
         n = &n[i + 1..];
     }
-}
-
-// How many fields a line has.
-pub fn count(row: &[u8]) -> usize
-    ensures { λ r. ⌜ r ≡ length (fieldsIn (now (row .entry))) ⌝ }
-{
-    let mut n: usize = 1;
-    let mut i: usize = 0;
-    while i < row.len() {
-        if row[i] == 32 {
-            n += 1;
-        }
-        i += 1;
-    }
-    n
-}
-
-// Whether a line is a header of the names, each once, in any order.
-pub fn is_header(line: &[u8], names: &[u8]) -> bool
-    ensures { λ r. ⌜ r ≡ namesOnce (fieldsIn (now (names .entry))) (fieldsIn (now (line .entry))) ⌝ }
-{
-    (count(line) == count(names)) & has_all(line, names)
 }
 
 // The place of the byte 10 that ends the line at a place; the text's end, or a place beyond it, where none is left.

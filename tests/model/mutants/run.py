@@ -1,7 +1,7 @@
 #!/usr/bin/env python3
 """run.py DIRECTORY [NAME...]
 
-Runs the cases of a directory against the model and against each mutant.
+Runs the cases of a directory and its folders against the model and against each mutant.
 NAME.txt is a text and NAME.out the output expected for it; NAME.script is a
 script and NAME.sout the answers expected to it; NAME.watch is a pair of two runs,
 as the program `pairs` writes it, for the check of tests/pairs.py.
@@ -84,7 +84,8 @@ def fails(root, stem, kind):
 
 
 def read_cases(directory):
-    paths = [os.path.splitext(os.path.join(directory, name)) for name in sorted(os.listdir(directory))]
+    names = sorted(os.path.join(folder, name) for folder, _, files in os.walk(directory) for name in files)
+    paths = [os.path.splitext(name) for name in names]
     pairs = [path for path in paths if path[1] == ".watch"]
     return pairs or [path for path in paths if path[1] in (".txt", ".script")]
 

@@ -8,9 +8,8 @@ use Rattle.text.proofs.Laws.{line-ends, line-here}
 use mathlib.Core.Option.{none, some}
 use lib.ListN.{length-append, length-set}
 use Rattle.text.specs.Bytes.{hexSetOf}
-use Rattle.rows.proofs.Laws.{tags-some, tags-none}
 use Rattle.load.specs.Tables.{grouped}
-use Rattle.load.proofs.Tables.{Gathered, groups-over, groups-none, groups-full, groups-step, groups-length, grouped-none, grouped-more}
+use Rattle.load.proofs.Tables.{tags-some, tags-none, Gathered, groups-over, groups-none, groups-full, groups-step, groups-length, grouped-none, grouped-more}
 use borrow.Author.Needs.{needs}
 use Rattle.load.proofs.group_sets.Statement.{statement}
 use Rattle.load.proofs.group_sets.Tie as tie
@@ -36,9 +35,6 @@ returns c =
     let e = line-ends (c .before .before .before .before .before .args .text .now) (c .before .before .loop .at) (c .before .line-end .result) (omega arith) (c .before .line-end .ensures) in
     let z = sym (g .count) in
     rw (z, g .kept) (ap grouped (sym (groups-over (g .gs) _ (e .none (c .if1 .taken))) ∙ g .says))
-
-enum-known-set : tie.Need-enum-known-set Inv-loop μ-loop
-enum-known-set c = search needs
 
 enum-told : tie.Need-enum-told Inv-loop μ-loop
 enum-told c = search needs
@@ -66,18 +62,6 @@ returns-3 c =
     let z = sym (g .count) in
     rw (z, g .kept) (ap grouped (sym (groups-full (g .gs) (h .is) (c .before .before .set .given .0 .0) s (omega arith)) ∙ g .says))
 
-mul-sets : tie.Need-mul-sets Inv-loop μ-loop
-mul-sets c = search needs
-
-array-set-from-sets : tie.Need-array-set-from-sets Inv-loop μ-loop
-array-set-from-sets c = search needs
-
-add-count : tie.Need-add-count Inv-loop μ-loop
-add-count c = search needs
-
-add-at : tie.Need-add-at Inv-loop μ-loop
-add-at c = search needs
-
 loop-less : tie.Need-loop-less Inv-loop μ-loop
 loop-less c = let e = line-ends (c .before .before .before .before .before .before .before .before .before .before .before .args .text .now) (c .before .before .before .before .before .before .before .before .loop .at) (c .before .before .before .before .before .before .before .line-end .result) (omega arith) (c .before .before .before .before .before .before .before .line-end .ensures) in omega arith
 
@@ -103,4 +87,4 @@ loop-again c =
 pub group-sets-spec : {M : Type 1} → statement M
 group-sets-spec =
     tie.close
-    (tie.spec Inv-loop μ-loop (λ _ _. tt) loop-holds (λ _ _. tt) returns (λ _ _. tt) (λ _ _. tt) enum-known-set enum-told returns-2 returns-3 mul-sets array-set-from-sets add-count add-at loop-less loop-again)
+    (tie.spec Inv-loop μ-loop (λ _ _. tt) loop-holds (λ _ _. tt) returns (λ _ _. tt) (λ _ _. tt) (λ c. search needs) enum-told returns-2 returns-3 (λ c. search needs) (λ c. search needs) (λ c. search needs) (λ c. search needs) loop-less loop-again)

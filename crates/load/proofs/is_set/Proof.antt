@@ -7,9 +7,6 @@ use Rattle.load.proofs.is_set.Tie as tie
 
 -- `load::is_set` meets its contract. Assumes nothing.
 
-enum-known-set : tie.Need-enum-known-set
-enum-known-set c = search needs
-
 enum-told : tie.Need-enum-told
 enum-told c = search needs
 
@@ -22,4 +19,4 @@ returns-2 c = sym (set-none (hexSetOf (c .before .before .before .before .args .
 pub is-set-spec : {M : Type 1} → statement M
 is-set-spec =
     tie.close
-    (tie.spec (λ _ _. tt) enum-known-set enum-told returns returns-2)
+    (tie.spec (λ _ _. tt) (λ c. search needs) enum-told returns returns-2)

@@ -1,6 +1,6 @@
 use mathlib.Core.Path.{_≡_, sym, ap, ap₂, _∙_}
 use Rattle.monitor.specs.declared.Table.{Table}
-use Rattle.load.specs.declared.Entities.{Entities}
+use Rattle.load.specs.declared.Filled.{Filled}
 use Rattle.load.specs.declared.Verdict.the-variants.{Accepted}
 use Rattle.load.specs.Tables.{withGroups, tableIn, breakingIn}
 use Rattle.load.specs.Load.{refusedBy}
@@ -26,7 +26,7 @@ returns-3 : tie.Need-returns-3
 returns-3 c =
     let text = c .before .before .before .before .before .before .before .args .text .now in
     let b = c .before .before .before .before .bad-line .ensures in
-    let t = ap (λ (x : Entities). x .twice) (c .before .before .entities-in .ensures) in
+    let t = ap (λ (x : Filled). x .twice) (c .before .before .entities-in .ensures) in
     c .refused3 .ensures ∙ ap (refusedBy 16) t ∙ sym (load-16 text (c .before .before .before .before .before .if1 .left) (sym b ∙ c .before .before .before .if2 .left) (λ z. c .before .if3 .taken (t ∙ z)))
 
 breaking-line-requires : tie.Need-breaking-line-requires
@@ -37,8 +37,8 @@ unfolding tableIn
 returns-4 c =
     let text = c .before .before .before .before .before .before .before .before .before .before .before .before .args .text .now in
     let b = c .before .before .before .before .before .before .before .before .before .bad-line .ensures in
-    let t = ap (λ (x : Entities). x .twice) (c .before .before .before .before .before .before .before .entities-in .ensures) in
-    let u : c .before .before .before .with-groups .result ≡ tableIn text = c .before .before .before .with-groups .ensures ∙ ap₂ withGroups (ap (λ (x : Entities). x .table) (c .before .before .before .before .before .before .before .entities-in .ensures)) (c .before .before .before .before .groups-in .ensures) in
+    let t = ap (λ (x : Filled). x .twice) (c .before .before .before .before .before .before .before .entities-in .ensures) in
+    let u : c .before .before .before .with-groups .result ≡ tableIn text = c .before .before .before .with-groups .ensures ∙ ap₂ withGroups (ap (λ (x : Filled). x .table) (c .before .before .before .before .before .before .before .entities-in .ensures)) (c .before .before .before .before .groups-in .ensures) in
     let k = c .before .before .breaking-line .ensures ∙ ap (breakingIn text) u in
     c .refused4 .ensures ∙ ap (refusedBy 17) k ∙ sym (load-17 text (c .before .before .before .before .before .before .before .before .before .before .if1 .left) (sym b ∙ c .before .before .before .before .before .before .before .before .if2 .left) (sym t ∙ c .before .before .before .before .before .before .if3 .left) (λ z. c .before .if4 .taken (k ∙ z)))
 
@@ -47,8 +47,8 @@ unfolding tableIn
 returns-5 c =
     let text = c .before .before .before .before .before .before .before .before .before .before .before .args .text .now in
     let b = c .before .before .before .before .before .before .before .before .bad-line .ensures in
-    let t = ap (λ (x : Entities). x .twice) (c .before .before .before .before .before .before .entities-in .ensures) in
-    let u : c .before .before .with-groups .result ≡ tableIn text = c .before .before .with-groups .ensures ∙ ap₂ withGroups (ap (λ (x : Entities). x .table) (c .before .before .before .before .before .before .entities-in .ensures)) (c .before .before .before .groups-in .ensures) in
+    let t = ap (λ (x : Filled). x .twice) (c .before .before .before .before .before .before .entities-in .ensures) in
+    let u : c .before .before .with-groups .result ≡ tableIn text = c .before .before .with-groups .ensures ∙ ap₂ withGroups (ap (λ (x : Filled). x .table) (c .before .before .before .before .before .before .entities-in .ensures)) (c .before .before .before .groups-in .ensures) in
     let k = c .before .breaking-line .ensures ∙ ap (breakingIn text) u in
     ap (λ (x : Table). record { verdict = Accepted; table = x }) u ∙ sym (load-accepted text (c .before .before .before .before .before .before .before .before .before .if1 .left) (sym b ∙ c .before .before .before .before .before .before .before .if2 .left) (sym t ∙ c .before .before .before .before .before .if3 .left) (sym k ∙ c .if4 .left))
 

@@ -35,12 +35,6 @@ returns c =
     let z = past-over (linesOf (drop (l .at) t)) (e .none (c .if1 .taken)) in
     (ap₂ placed (omega (arith, z .0, l .inv .2)) (omega (arith, z .1, l .inv .3)), omega arith, omega arith)
 
-add-t8 : tie.Need-add-t8 Inv-loop μ-loop
-add-t8 c = omega arith
-
-add-t9 : tie.Need-add-t9 Inv-loop μ-loop
-add-t9 c = omega arith
-
 returns-2 : tie.Need-returns-2 Inv-loop μ-loop
 unfolding pastEmpty
 returns-2 c =
@@ -50,12 +44,6 @@ returns-2 c =
     let h = line-here t (l .at) (c .before .before .line-end .result) (c .before .before .line-end .ensures) (omega arith) (c .before .if1 .left) in
     let z = past-empty (h .is) (omega (arith, length-line t (l .at) (c .before .before .line-end .result) (omega arith) (c .before .before .line-end .ensures))) in
     (ap₂ placed (omega (arith, z .0, l .inv .2)) (omega (arith, z .1, l .inv .3)), omega arith, omega arith)
-
-add-at : tie.Need-add-at Inv-loop μ-loop
-add-at c = search needs
-
-add-line : tie.Need-add-line Inv-loop μ-loop
-add-line c = search needs
 
 loop-less : tie.Need-loop-less Inv-loop μ-loop
 loop-less c = let e = line-ends (c .before .before .before .before .before .args .text .now) (c .before .before .before .loop .at) (c .before .before .line-end .result) (omega arith) (c .before .before .line-end .ensures) in omega arith
@@ -72,4 +60,4 @@ loop-again c =
 pub past-empty-spec : {M : Type 1} → statement M
 past-empty-spec =
     tie.close
-    (tie.spec Inv-loop μ-loop loop-holds (λ _ _. tt) returns add-t8 add-t9 returns-2 add-at add-line loop-less loop-again)
+    (tie.spec Inv-loop μ-loop loop-holds (λ _ _. tt) returns (λ c. omega arith) (λ c. omega arith) returns-2 (λ c. search needs) (λ c. search needs) loop-less loop-again)

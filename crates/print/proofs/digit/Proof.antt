@@ -6,15 +6,9 @@ use Rattle.print.proofs.digit.Tie as tie
 
 -- `print::digit` meets its contract. Assumes nothing.
 
-add-result : tie.Need-add-result
-add-result c = search needs
-
 returns : tie.Need-returns
 unfolding digitText
 returns c = rw (lt-ltb _ _ (c .if1 .taken))
-
-add-result-2 : tie.Need-add-result-2
-add-result-2 c = search needs
 
 returns-2 : tie.Need-returns-2
 unfolding digitText
@@ -23,4 +17,4 @@ returns-2 c = rw (le-ltb _ _ (c .if1 .left))
 pub digit-spec : {M : Type 1} → statement M
 digit-spec =
     tie.close
-    (tie.spec add-result returns add-result-2 returns-2)
+    (tie.spec (λ c. search needs) returns (λ c. search needs) returns-2)

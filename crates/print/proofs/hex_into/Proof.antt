@@ -4,7 +4,7 @@ use lib.ListN.{length, drop, length-set}
 use lib.Seq.{sets}
 use native.Mathlib.Omega.{arith}
 use Rattle.print.specs.Lines.{hexText}
-use Rattle.print.proofs.Laws.{hex-end, hex-step}
+use Rattle.print.proofs.Laws.{hex-end, hex-step, length-hex}
 use borrow.Author.Needs.{needs}
 use Rattle.print.proofs.hex_into.Statement.{statement}
 use Rattle.print.proofs.hex_into.Tie as tie
@@ -20,32 +20,14 @@ abbrev μ-loop : tie.MeasureT-loop
 loop-holds : tie.Need-loop-holds Inv-loop μ-loop
 loop-holds c = (omega arith, omega arith, refl, refl)
 
-shared-slice-read-b : tie.Need-shared-slice-read-b Inv-loop μ-loop
-shared-slice-read-b c = search needs
-
 digit-requires : tie.Need-digit-requires Inv-loop μ-loop
 digit-requires c κs = omega (arith, c .shared-slice-known2 .given (c .before .before .loop .i))
 
 slice-write-out : tie.Need-slice-write-out Inv-loop μ-loop
 slice-write-out c = omega arith
 
-digit-requires-2 : tie.Need-digit-requires-2 Inv-loop μ-loop
-digit-requires-2 c κs = search needs
-
-add-out : tie.Need-add-out Inv-loop μ-loop
-add-out c = search needs
-
 slice-write-out-2 : tie.Need-slice-write-out-2 Inv-loop μ-loop
 slice-write-out-2 c = simp length-set (omega arith)
-
-add-k : tie.Need-add-k Inv-loop μ-loop
-add-k c = search needs
-
-add-i : tie.Need-add-i Inv-loop μ-loop
-add-i c = search needs
-
-loop-less : tie.Need-loop-less Inv-loop μ-loop
-loop-less c = search needs
 
 loop-again : tie.Need-loop-again Inv-loop μ-loop
 loop-again c = (
@@ -59,9 +41,9 @@ same-length : tie.Need-same-length Inv-loop μ-loop
 same-length c = c .before .loop .inv .2
 
 returns : tie.Need-returns Inv-loop μ-loop
-returns c = sym (hex-end _ _ (c .before .loop .k) (c .before .loop .i) (c .loop-test .left)) ∙ c .before .loop .inv .3
+returns c = (sym (hex-end _ _ (c .before .loop .k) (c .before .loop .i) (c .loop-test .left)) ∙ c .before .loop .inv .3, omega (arith, length-hex (c .before .before .before .before .args .src .now)))
 
 pub hex-into-spec : {M : Type 1} → statement M
 hex-into-spec =
     tie.close
-    (tie.spec Inv-loop μ-loop loop-holds shared-slice-read-b digit-requires slice-write-out digit-requires-2 add-out slice-write-out-2 add-k add-i loop-less loop-again same-length returns)
+    (tie.spec Inv-loop μ-loop loop-holds (λ c. search needs) digit-requires slice-write-out (λ c κs. search needs) (λ c. search needs) slice-write-out-2 (λ c. search needs) (λ c. search needs) (λ c. search needs) loop-again same-length returns)

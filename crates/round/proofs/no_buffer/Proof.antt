@@ -1,5 +1,5 @@
 use mathlib.Core.Path.{refl}
-use Rattle.rows.specs.Calls.{showBuffer}
+use Rattle.callrows.specs.Calls.{showBuffer}
 use Rattle.round.proofs.no_buffer.Statement.{statement}
 use Rattle.round.proofs.no_buffer.Tie as tie
 

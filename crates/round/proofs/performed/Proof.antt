@@ -1,3 +1,4 @@
+use mathlib.Core.Bool.{true}
 use mathlib.Core.Path.{ap₂, _∙_}
 use mathlib.Core.List.{List}
 use Prim.Native.Nat.{ℕ}
@@ -17,7 +18,7 @@ returns c =
     let n = f .before .before in
     let a = n .before .args in
     let r = p .perform .result in
-    (λ z. record { table = r .table; entry = r .answer .entry; buffer = p .perform .last .1 .1 .1 .0; len = c .bytes-shown .ensures z })
+    (λ z. record { table = r .table; called = true; entry = r .answer .entry; buffer = p .perform .last .1 .1 .1 .0; len = c .bytes-shown .ensures z })
     ∙ ap₂ (playedFrom (a .call))
     (p .perform .ensures .0 ∙ ap₂ (λ (l b : List ℕ). reply (a .table) (callWith (a .call) l b)) (f .front .ensures .0) (n .no-buffer .ensures))
     (p .perform .ensures .1 ∙ ap₂ (bufferAfter (a .table) (a .call)) (f .front .ensures .0) (n .no-buffer .ensures))

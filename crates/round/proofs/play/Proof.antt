@@ -1,7 +1,7 @@
 use mathlib.Core.Path.{sym, ap, _∙_}
 use lib.ListN.{take}
 use borrow.Author.Needs.{needs}
-use Rattle.rows.specs.declared.CallRead.{CallRead}
+use Rattle.callrows.specs.declared.CallRead.{CallRead}
 use Rattle.round.specs.Played.{playedBy}
 use Rattle.round.proofs.play.Statement.{statement}
 use Rattle.round.proofs.play.Tie as tie

@@ -5,9 +5,6 @@ use Rattle.rows.proofs.is_entity_header.Tie as tie
 
 -- `rows::is_entity_header` meets its contract. Assumes nothing.
 
-slice-aggregate-is-header : tie.Need-slice-aggregate-is-header
-slice-aggregate-is-header c = search needs
-
 returns : tie.Need-returns
 unfolding fieldsIn ahead
 returns c = c .is-header .ensures
@@ -15,4 +12,4 @@ returns c = c .is-header .ensures
 pub is-entity-header-spec : {M : Type 1} → statement M
 is-entity-header-spec =
     tie.close
-    (tie.spec slice-aggregate-is-header (λ _ _. tt) returns)
+    (tie.spec (λ c. search needs) (λ _ _. tt) returns)

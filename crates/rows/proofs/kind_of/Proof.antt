@@ -6,15 +6,9 @@ use Rattle.rows.proofs.kind_of.Tie as tie
 
 -- `rows::kind_of` meets its contract. Assumes nothing.
 
-slice-aggregate-same : tie.Need-slice-aggregate-same
-slice-aggregate-same c = search needs
-
 returns : tie.Need-returns
 unfolding kindNamed
 returns c = rw (sym (c .before .same .ensures) ∙ c .if1 .taken)
-
-slice-aggregate-same-2 : tie.Need-slice-aggregate-same-2
-slice-aggregate-same-2 c = search needs
 
 returns-2 : tie.Need-returns-2
 unfolding kindNamed
@@ -27,4 +21,4 @@ returns-3 c = rw (sym (c .before .before .before .before .same .ensures) ∙ c .
 pub kind-of-spec : {M : Type 1} → statement M
 kind-of-spec =
     tie.close
-    (tie.spec slice-aggregate-same (λ _ _. tt) returns slice-aggregate-same-2 (λ _ _. tt) returns-2 returns-3)
+    (tie.spec (λ c. search needs) (λ _ _. tt) returns (λ c. search needs) (λ _ _. tt) returns-2 returns-3)

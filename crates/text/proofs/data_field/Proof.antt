@@ -7,9 +7,6 @@ use Rattle.text.proofs.data_field.Tie as tie
 
 -- `text::data_field` meets its contract. Assumes nothing.
 
-slice-aggregate-same : tie.Need-slice-aggregate-same
-slice-aggregate-same c = search needs
-
 returns : tie.Need-returns
 returns c = c .empty-data .ensures ∙ sym (ap asData (data-dash _ _ (sym (c .before .before .same .ensures) ∙ c .before .if1 .taken)))
 
@@ -22,4 +19,4 @@ returns-3 c = c .pairs .ensures ∙ sym (ap asData (data-pairs _ _ (sym (c .befo
 pub data-field-spec : {M : Type 1} → statement M
 data-field-spec =
     tie.close
-    (tie.spec slice-aggregate-same (λ _ _. tt) (λ _ _. tt) returns (λ _ _. tt) returns-2 (λ _ _. tt) returns-3)
+    (tie.spec (λ c. search needs) (λ _ _. tt) (λ _ _. tt) returns (λ _ _. tt) returns-2 (λ _ _. tt) returns-3)

@@ -10,20 +10,11 @@ use Rattle.text.proofs.decimal.Tie as tie
 returns : tie.Need-returns
 returns c = sym (ap asNumber (dec-none _ _ (c .if1 .taken)))
 
-shared-slice-read-if3 : tie.Need-shared-slice-read-if3
-shared-slice-read-if3 c = search needs
-
 returns-2 : tie.Need-returns-2
 returns-2 c = sym (ap asNumber (dec-zeros _ _ (c .before .before .if2 .taken) (c .if3 .taken)))
 
-digits-requires : tie.Need-digits-requires
-digits-requires c κs = search needs
-
 returns-3 : tie.Need-returns-3
 returns-3 c = c .digits .ensures ∙ sym (ap asNumber (dec-more _ _ (c .before .before .before .if2 .taken) (c .before .if3 .left)))
-
-digits-requires-2 : tie.Need-digits-requires-2
-digits-requires-2 c κs = search needs
 
 returns-4 : tie.Need-returns-4
 returns-4 c = c .digits2 .ensures ∙ sym (ap asNumber (dec-one _ _ (c .before .before .if1 .left) (c .before .if2 .left)))
@@ -31,11 +22,4 @@ returns-4 c = c .digits2 .ensures ∙ sym (ap asNumber (dec-one _ _ (c .before .
 pub decimal-spec : {M : Type 1} → statement M
 decimal-spec =
     tie.close
-    (tie.spec
-    returns
-    shared-slice-read-if3
-    returns-2
-    digits-requires
-    returns-3
-    digits-requires-2
-    returns-4)
+    (tie.spec returns (λ c. search needs) returns-2 (λ c κs. search needs) returns-3 (λ c κs. search needs) returns-4)

@@ -16,9 +16,6 @@ returns-2 c = omega (arith, nib-digit (c .before .before .args .b) (omega arith)
 returns-3 : tie.Need-returns-3
 returns-3 c = sym (nib-between (c .before .before .before .args .b) (omega arith) (omega arith))
 
-sub-result : tie.Need-sub-result
-sub-result c = search needs
-
 returns-4 : tie.Need-returns-4
 returns-4 c = omega (arith, nib-letter (c .before .before .before .before .args .b) (omega arith) (omega arith))
 
@@ -28,4 +25,4 @@ returns-5 c = sym (nib-above (c .before .before .before .before .args .b) (omega
 pub digit-spec : {M : Type 1} → statement M
 digit-spec =
     tie.close
-    (tie.spec returns returns-2 returns-3 sub-result returns-4 returns-5)
+    (tie.spec returns returns-2 returns-3 (λ c. search needs) returns-4 returns-5)

@@ -20,29 +20,11 @@ abbrev μ-loop : tie.MeasureT-loop
 loop-holds : tie.Need-loop-holds Inv-loop μ-loop
 loop-holds c = (search needs, search needs, refl, refl)
 
-shared-slice-read-digit : tie.Need-shared-slice-read-digit Inv-loop μ-loop
-shared-slice-read-digit c = search needs
-
 returns : tie.Need-returns Inv-loop μ-loop
 returns c = ap asNumber (sym (dec-letter _ _ _ _ (c .before .digit .result) (c .before .digit .ensures) (c .before .before .before .loop-test .taken) (c .if1 .taken)) ∙ c .before .before .before .before .loop .inv .3)
 
-mul-m : tie.Need-mul-m Inv-loop μ-loop
-mul-m c = search needs
-
-cast-m : tie.Need-cast-m Inv-loop μ-loop
-cast-m c = search needs
-
-add-m : tie.Need-add-m Inv-loop μ-loop
-add-m c = search needs
-
 returns-2 : tie.Need-returns-2 Inv-loop μ-loop
 returns-2 c = ap asNumber (sym (dec-above (c .before .before .before .before .before .before .before .args .max) (c .before .before .before .before .before .loop .n) _ _ (c .before .before .digit .result) (c .before .before .digit .ensures) (c .before .before .before .before .loop-test .taken) (c .before .if1 .left) (omega arith)) ∙ c .before .before .before .before .before .loop .inv .3)
-
-add-i : tie.Need-add-i Inv-loop μ-loop
-add-i c = search needs
-
-loop-less : tie.Need-loop-less Inv-loop μ-loop
-loop-less c = search needs
 
 loop-again : tie.Need-loop-again Inv-loop μ-loop
 loop-again c = (
@@ -52,13 +34,10 @@ loop-again c = (
   sym (dec-step (c .before .before .before .before .before .before .before .args .max) (c .before .before .before .before .before .loop .n) _ _ (c .before .before .digit .result) (c .before .before .digit .ensures) (c .before .before .before .before .loop-test .taken) (c .before .if1 .left) (omega arith)) ∙ c .before .before .before .before .before .loop .inv .3,
 )
 
-cast-t14 : tie.Need-cast-t14 Inv-loop μ-loop
-cast-t14 c = search needs
-
 returns-3 : tie.Need-returns-3 Inv-loop μ-loop
 returns-3 c = ap asNumber (sym (dec-end (c .before .before .before .args .max) (c .before .loop .n) _ _ (c .loop-test .left)) ∙ c .before .loop .inv .3)
 
 pub digits-spec : {M : Type 1} → statement M
 digits-spec =
     tie.close
-    (tie.spec Inv-loop μ-loop loop-holds shared-slice-read-digit (λ _ _. tt) returns mul-m cast-m add-m returns-2 add-i loop-less loop-again cast-t14 returns-3)
+    (tie.spec Inv-loop μ-loop loop-holds (λ c. search needs) (λ _ _. tt) returns (λ c. search needs) (λ c. search needs) (λ c. search needs) returns-2 (λ c. search needs) (λ c. search needs) loop-again (λ c. search needs) returns-3)

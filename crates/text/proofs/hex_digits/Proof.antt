@@ -21,17 +21,8 @@ abbrev μ-loop : tie.MeasureT-loop
 loop-holds : tie.Need-loop-holds Inv-loop μ-loop
 loop-holds c = (search needs, rw (c .empty .ensures))
 
-shared-slice-read-digit : tie.Need-shared-slice-read-digit Inv-loop μ-loop
-shared-slice-read-digit c = search needs
-
 returns : tie.Need-returns Inv-loop μ-loop
 returns c = ap asTags (sym (set-other _ _ _ (c .before .digit .result) (c .before .digit .ensures) (c .before .before .before .loop-test .taken) (c .if1 .taken)) ∙ c .before .before .before .before .loop .inv .1)
-
-add-i : tie.Need-add-i Inv-loop μ-loop
-add-i c = search needs
-
-loop-less : tie.Need-loop-less Inv-loop μ-loop
-loop-less c = search needs
 
 loop-again : tie.Need-loop-again Inv-loop μ-loop
 loop-again c = (
@@ -45,4 +36,4 @@ returns-2 c = ap asTags (sym (set-end _ _ _ (c .loop-test .left)) ∙ c .before 
 pub hex-digits-spec : {M : Type 1} → statement M
 hex-digits-spec =
     tie.close
-    (tie.spec Inv-loop μ-loop (λ _ _. tt) loop-holds shared-slice-read-digit (λ _ _. tt) returns (λ _ _. tt) add-i loop-less loop-again returns-2)
+    (tie.spec Inv-loop μ-loop (λ _ _. tt) loop-holds (λ c. search needs) (λ _ _. tt) returns (λ _ _. tt) (λ c. search needs) (λ c. search needs) loop-again returns-2)

@@ -19,17 +19,8 @@ abbrev μ-loop : tie.MeasureT-loop
 loop-holds : tie.Need-loop-holds Inv-loop μ-loop
 loop-holds c = (search needs, zero-add _)
 
-shared-slice-read-if1 : tie.Need-shared-slice-read-if1 Inv-loop μ-loop
-shared-slice-read-if1 c = search needs
-
 returns : tie.Need-returns Inv-loop μ-loop
 returns c = let l = c .before .before .before .loop in sym (index-hit _ _ _ (c .before .before .loop-test .taken) (c .if1 .taken)) ∙ l .inv .1
-
-add-i : tie.Need-add-i Inv-loop μ-loop
-add-i c = search needs
-
-loop-less : tie.Need-loop-less Inv-loop μ-loop
-loop-less c = search needs
 
 loop-again : tie.Need-loop-again Inv-loop μ-loop
 loop-again c = let l = c .before .before .before .loop in (search needs, sym (index-miss _ _ _ (c .before .before .loop-test .taken) (c .if1 .left)) ∙ l .inv .1)
@@ -40,13 +31,4 @@ returns-2 c = sym (index-end _ _ _ (c .loop-test .left)) ∙ c .before .loop .in
 pub index-of-spec : {M : Type 1} → statement M
 index-of-spec =
     tie.close
-    (tie.spec
-    Inv-loop
-    μ-loop
-    loop-holds
-    shared-slice-read-if1
-    returns
-    add-i
-    loop-less
-    loop-again
-    returns-2)
+    (tie.spec Inv-loop μ-loop loop-holds (λ c. search needs) returns (λ c. search needs) (λ c. search needs) loop-again returns-2)

@@ -7,9 +7,6 @@ use Rattle.text.proofs.line_at.Tie as tie
 
 -- `text::line_at` meets its contract. Assumes nothing.
 
-slice-aggregate-result : tie.Need-slice-aggregate-result
-slice-aggregate-result c = search needs
-
 returns : tie.Need-returns
 returns c = sym (line-none (c .before .before .before .args .text .now) (c .before .before .before .args .at) (c .before .if1 .taken))
 
@@ -28,4 +25,4 @@ returns-2 c = line-part (c .before .before .before .before .args .text .now) (c 
 pub line-at-spec : {M : Type 1} → statement M
 line-at-spec =
     tie.close
-    (tie.spec slice-aggregate-result returns (λ _ _. tt) sub-result part-result-start part-result-end returns-2)
+    (tie.spec (λ c. search needs) returns (λ _ _. tt) sub-result part-result-start part-result-end returns-2)

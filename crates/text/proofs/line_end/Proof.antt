@@ -13,15 +13,6 @@ use Rattle.text.proofs.line_end.Tie as tie
 returns : tie.Need-returns
 returns c = sym (line-beyond (c .before .before .args .text .now) (c .before .before .args .at) (c .if1 .taken))
 
-sub-index-of : tie.Need-sub-index-of
-sub-index-of c = search needs
-
-part-index-of-start : tie.Need-part-index-of-start
-part-index-of-start c = search needs
-
-part-index-of-end : tie.Need-part-index-of-end
-part-index-of-end c = search needs
-
 add-result : tie.Need-add-result
 add-result c =
     let a = c .before .before .before .before .args in
@@ -38,4 +29,4 @@ returns-2 c =
 pub line-end-spec : {M : Type 1} → statement M
 line-end-spec =
     tie.close
-    (tie.spec returns sub-index-of part-index-of-start part-index-of-end (λ _ _. tt) add-result returns-2)
+    (tie.spec returns (λ c. search needs) (λ c. search needs) (λ c. search needs) (λ _ _. tt) add-result returns-2)

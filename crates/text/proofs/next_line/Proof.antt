@@ -9,9 +9,6 @@ use Rattle.text.proofs.next_line.Tie as tie
 
 -- `text::next_line` meets its contract. Assumes nothing.
 
-add-result : tie.Need-add-result
-add-result c = search needs
-
 returns : tie.Need-returns
 returns c =
     let e = c .before .line-end .ensures in
@@ -27,4 +24,4 @@ returns-2 c =
 pub next-line-spec : {M : Type 1} → statement M
 next-line-spec =
     tie.close
-    (tie.spec (λ _ _. tt) add-result returns returns-2)
+    (tie.spec (λ _ _. tt) (λ c. search needs) returns returns-2)

@@ -22,23 +22,11 @@ loop-holds c =
     let e = c .no-room .ensures ∙ sym room-none in
     (omega arith, omega arith, refl, ap length e ∙ length-room [] (omega arith), record { bs = []; count = refl; kept = e; says = refl })
 
-add-if1 : tie.Need-add-if1 Inv-loop μ-loop
-add-if1 c = search needs
-
 returns : tie.Need-returns Inv-loop μ-loop
 returns c =
     let l = c .before .before .before .loop in
     let h = l .inv .4 in
     c .no-data .ensures ∙ ap asData (sym (pairs-odd (c .before .before .before .before .before .before .args .max) (h .bs) (c .before .before .before .before .before .before .args .s .now) (l .i) (c .before .before .loop-test .taken) (c .before .if1 .taken)) ∙ h .says)
-
-shared-slice-read-digit : tie.Need-shared-slice-read-digit Inv-loop μ-loop
-shared-slice-read-digit c = search needs
-
-add-digit : tie.Need-add-digit Inv-loop μ-loop
-add-digit c = search needs
-
-shared-slice-read-digit-2 : tie.Need-shared-slice-read-digit-2 Inv-loop μ-loop
-shared-slice-read-digit-2 c = search needs
 
 returns-2 : tie.Need-returns-2 Inv-loop μ-loop
 returns-2 c =
@@ -58,24 +46,6 @@ returns-4 c =
     let h = l .inv .4 in
     let k = h .count in
     c .no-data4 .ensures ∙ ap asData (sym (pairs-full (c .before .before .before .before .before .before .before .before .before .before .before .before .before .args .max) (h .bs) (c .before .before .before .before .before .before .before .before .before .before .before .before .before .args .s .now) (l .i) (c .before .before .before .before .before .before .before .before .if1 .left) (c .before .before .before .before .before .before .digit .result) (c .before .before .before .before .digit2 .result) (c .before .before .before .before .before .before .digit .ensures) (c .before .before .before .before .digit2 .ensures) (c .before .before .before .if2 .left) (c .before .before .if3 .left) (omega arith)) ∙ h .says)
-
-mul-bytes : tie.Need-mul-bytes Inv-loop μ-loop
-mul-bytes c = search needs
-
-add-bytes : tie.Need-add-bytes Inv-loop μ-loop
-add-bytes c = search needs
-
-array-write-bytes : tie.Need-array-write-bytes Inv-loop μ-loop
-array-write-bytes c = search needs
-
-add-n : tie.Need-add-n Inv-loop μ-loop
-add-n c = search needs
-
-add-i : tie.Need-add-i Inv-loop μ-loop
-add-i c = search needs
-
-loop-less : tie.Need-loop-less Inv-loop μ-loop
-loop-less c = search needs
 
 loop-again : tie.Need-loop-again Inv-loop μ-loop
 loop-again c =
@@ -105,4 +75,4 @@ returns-5 c =
 pub pairs-spec : {M : Type 1} → statement M
 pairs-spec =
     tie.close
-    (tie.spec Inv-loop μ-loop (λ _ _. tt) loop-holds add-if1 (λ _ _. tt) returns shared-slice-read-digit (λ _ _. tt) add-digit shared-slice-read-digit-2 (λ _ _. tt) (λ _ _. tt) returns-2 (λ _ _. tt) returns-3 (λ _ _. tt) returns-4 mul-bytes add-bytes array-write-bytes add-n add-i loop-less loop-again returns-5)
+    (tie.spec Inv-loop μ-loop (λ _ _. tt) loop-holds (λ c. search needs) (λ _ _. tt) returns (λ c. search needs) (λ _ _. tt) (λ c. search needs) (λ c. search needs) (λ _ _. tt) (λ _ _. tt) returns-2 (λ _ _. tt) returns-3 (λ _ _. tt) returns-4 (λ c. search needs) (λ c. search needs) (λ c. search needs) (λ c. search needs) (λ c. search needs) (λ c. search needs) loop-again returns-5)

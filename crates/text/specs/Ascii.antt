@@ -1,0 +1,10 @@
+-- The bytes of quoted text.
+-- Assumes nothing.
+use Prim.Native.Nat.{ℕ}
+use Prim.Native.Char.{code}
+use Prim.Native.String.{String, [], _∷_}
+use mathlib.Core.List.{List, [] as []ᴸ, _∷_ as _∷ᴸ_}
+
+abbrev pub ascii : String → List ℕ
+ascii [] = []ᴸ
+ascii (c ∷ s) = code c ∷ᴸ ascii s
