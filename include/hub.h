@@ -10,7 +10,8 @@
  * The table is a plain struct that the caller owns. Every function takes it by value and hands the next one back by
  * value, so that no table is changed behind a pointer. To keep one in place:
  *
- *     struct hub_table t = hub_load(text, length).table;
+ *     struct hub_loaded l = hub_load(text, length);
+ *     struct hub_table t = l.table;                    // where l.number is 0; else an empty table
  *     struct hub_reply r = hub_put(t, 1, bytes, 2);
  *     t = r.table;
  *
@@ -135,7 +136,7 @@ typedef char hub_loaded_has_4184_bytes[sizeof(struct hub_loaded) == 4184 ? 1 : -
 struct hub_table hub_empty(void);
 
 /*
- * The table of a text of three blocks, entities, groups and calls, as README.md has it. The calls are read for their
+ * The table of a text of three blocks, entities, groups and calls, as README.md says under "The text". The calls are read for their
  * form and not played. Refused by 14, longer than 65,535 bytes (line 0); 15, a line without the form, or a missing
  * block; 16, a slot that an earlier line names too; 17, an entity that breaks a group.
  */

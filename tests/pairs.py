@@ -2,7 +2,8 @@
 writes the two scripts of a pair, each a table, calls, a dump and audits of `run`, and which of the calls have a caller
 without the tag."""
 import re
-import subprocess
+
+import streams
 
 SILENT = ('table', 'slot', 'bytes', 'groups')
 SLOTS, ENTITY, AREA = 32, 57, 64
@@ -20,7 +21,7 @@ def fault(program, stem):
     (tag,), watched_a, watched_b = [line.split()[1:] for line in read(stem + '.watch').splitlines()]
     ran = [answers(program, stem + '.a.script'), answers(program, stem + '.b.script')]
     if None in ran:
-        return 'lines are missing, too many or of another form'
+        return 'a bad end, or lines are missing, too many or of another form'
     (calls_a, dump_a, audits_a), (calls_b, dump_b, audits_b) = ran
     if [calls_a[int(number)] for number in watched_a] != [calls_b[int(number)] for number in watched_b]:
         return 'the answers to callers without the tag differ'
@@ -33,12 +34,14 @@ def fault(program, stem):
 
 def answers(program, script):
     """What a program answers to a script: the lines of the calls without digests, the dump, the lines of the audits
-    without digests. None if there is not one line of the right form for each command."""
+    without digests. None if it does not end well in time, or if there is not one line of the right form for each
+    command."""
     text = read(script)
     commands = [line for line in text.splitlines() if line.split()[0] not in SILENT]
-    lines = subprocess.run([program], input=text, stdout=subprocess.PIPE, encoding='latin-1').stdout.splitlines()
+    done = streams.run([program], text.encode())
+    lines = done.out.decode('latin-1').splitlines()
     forms = [DUMP if command == 'dump' else ANSWER for command in commands]
-    if len(lines) != len(forms) or not all(map(re.fullmatch, forms, lines)):
+    if done.code != 0 or len(lines) != len(forms) or not all(map(re.fullmatch, forms, lines)):
         return None
     at = commands.index('dump')
     known = [line.rpartition(' ')[0] for line in lines]

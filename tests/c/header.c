@@ -11,6 +11,7 @@
 static const char TEXT[] =
     "slot kind sec int sa sd ia id data\n"
     "0 prog 1 2 40 80 100 200 -\n"
+    "29 item 1 2 0 0 0 0 -\n"
     "30 item 400 800 0 0 0 0 a1b2c3\n"
     "31 prog 1 2 4 8 10 20 a1b2\n"
     "\n"
@@ -45,7 +46,7 @@ int main(void) {
     struct hub_audited a;
     struct hub_slot s;
 
-    expect(l.number == 15 && l.line == 10, "hub_loaded: number and line");
+    expect(l.number == 15 && l.line == 11, "hub_loaded: number and line");
     l = hub_load((const uint8_t *)TEXT, sizeof TEXT - 1);
     expect(l.number == 0 && l.line == 0, "hub_loaded: an accepted text");
     t = l.table;
@@ -66,7 +67,7 @@ int main(void) {
     recorded(hub_add(t, 31, HUB_INTEGRITY, 4), "hub_add", 5, 31, 255, 0, 0, 4, 1);
     recorded(hub_drop(t, 31, HUB_INTEGRITY, 5), "hub_drop", 6, 31, 255, 0, 0, 5, 1);
     recorded(hub_create(t, 31, 7, HUB_PROGRAM), "hub_create", 7, 31, 7, 0, 0, 255, 2);
-    recorded(hub_release(t, 31, 31), "hub_release", 8, 31, 31, 0, 0, 255, 255);
+    recorded(hub_release(t, 31, 29), "hub_release", 8, 31, 29, 0, 0, 255, 255);
     recorded(hub_hand(t, 31, 0, HUB_ADD_SECRECY, 2), "hub_hand: to add to S", 9, 31, 0, 0, 0, 2, 0);
     recorded(hub_hand(t, 31, 0, HUB_DROP_SECRECY, 3), "hub_hand: to drop from S", 9, 31, 0, 0, 0, 3, 1);
     recorded(hub_hand(t, 31, 0, HUB_ADD_INTEGRITY, 4), "hub_hand: to add to I", 9, 31, 0, 0, 0, 4, 2);

@@ -15,6 +15,7 @@ import contextlib
 import importlib.machinery
 import importlib.util
 import io
+import itertools
 import os
 import random
 import re
@@ -133,6 +134,14 @@ def every_record():
         yield good, f'{path}: {status}\n{output}{error}'
 
 
+def every_answer():
+    """The records in the answers to a stored script, also by tables that no text gives, are all told."""
+    for path in files('.sout'):
+        records = re.findall('^[0-9]+ ([0-9a-f]{32}) ', read(path).decode(), re.MULTILINE)
+        status, output, error = explain('--raw', data=bytes.fromhex(''.join(records)))
+        yield records and (status, output.count('\n')) == (0, len(records)), f'{path}: {status}\n{output}{error}'
+
+
 # By document 01: the refusals of each call, and whether it uses other, tag and set.
 POSSIBLE = {
     1: ((0, 1, 5, 99), False, False, False), 2: ((0, 1, 6, 99), False, False, False),
@@ -140,17 +149,20 @@ POSSIBLE = {
     5: ((0, 1, 2, 10, 99), False, True, True), 6: ((0, 1, 2, 10, 99), False, True, True),
     7: ((0, 1, 2, 4, 99), True, False, True), 8: ((0, 1, 2, 3, 8, 99), True, False, False),
     9: ((0, 1, 2, 3, 9, 10, 11, 99), True, True, True)}
+# Those of them that a caller never gets where the other is itself: without a tag and a set, 2 has nothing to refuse.
+NEVER_ITSELF = {3: (2, 3, 7), 4: (2, 3, 7), 7: (0,), 8: (2, 3, 8), 9: (3, 9)}
 
 
 def every_number():
-    """A record is told just where document 01 has its number for its call."""
+    """A record is told just where document 01 has its number for its call, and for its call on the caller itself."""
     for kind, (numbers, *uses) in POSSIBLE.items():
-        for number in (*range(18), 99, 255):
+        for number, itself in itertools.product((*range(18), 99, 255), {False, uses[0]}):
             fields = (40, 64, 9) if number == 2 else (3, 5, 1)
             other, tag, field = (value if used else 255 for value, used in zip(fields, uses))
-            record = bytes([kind, 2, other, number, 0, tag, field, 0, *bytes(8)])
+            record = bytes([kind, 2, 2 if itself else other, number, 0, tag, field, 0, *bytes(8)])
             status, output, error = explain('--raw', data=record)
-            yield status == int(number not in numbers), f'record {record.hex()}: {status}\n{output}{error}'
+            possible = number in numbers and not (itself and number in NEVER_ITSELF[kind])
+            yield status == int(not possible), f'record {record.hex()}: {status}\n{output}{error}'
 
 
 # Pictures.
@@ -289,14 +301,26 @@ def started(command, data):
 
 
 def program():
-    """Started, it does the same; closed and full streams are told in a line; a reader that went away ends it."""
+    """Started, it does the same; closed and full streams are told in a line; standard input is read only where it is
+    asked for, and cannot be asked for twice; a reader that went away ends it."""
     for words in ('', '--raw', '--graph', '--unknown'):
         data = read(os.path.join(EXAMPLES, 'watering.out'))
         yield started(f'"$0" {words}', data) == explain(*words.split(), data=data), f'as a program: {words}'
     for command, line in (('"$0" >/dev/full', 'standard output: No space left on device'),
                           ('"$0" >&-', 'standard output: Bad file descriptor'),
-                          ('"$0" <&-', 'standard input: Bad file descriptor')):
+                          ('"$0" <&-', 'standard input: Bad file descriptor'),
+                          ('"$0" ""', "'': No such file or directory"),
+                          ('"$0" --names ""', "'': No such file or directory"),
+                          ('"$0" --flow ""', "'': No such file or directory")):
         yield started(command, data) == (1, '', f'hubexplain: {line}\n'), command
+    for command in ('"$0" --names -', '"$0" --names - -', '"$0" --raw --names -', '"$0" --names - --flow -'):
+        status, output, error = started(command, b'slot 0 first nursery\n')
+        yield (status, output) == (2, '') and 'error: standard input cannot be both' in error, command
+    nurseries = os.path.join(EXAMPLES, 'nurseries')
+    for words in (f'{nurseries}.out', f'--flow {nurseries}.txt'):
+        wanted = explain('--names', f'{nurseries}.names', *words.split())
+        good = started(f'"$0" --names - {words}', read(f'{nurseries}.names')) == wanted and wanted[0] == 0
+        yield good, f'names on standard input: {words}'
     gone, pipe = os.pipe()
     os.close(gone)
     ran = subprocess.run([TOOL], input=data, stdout=pipe, stderr=subprocess.PIPE, timeout=SECONDS)
@@ -307,8 +331,8 @@ def program():
 def results():
     """Runs all, prints what failed, and returns how many passed and failed."""
     counts = collections.Counter()
-    for tests in (stored_cases, every_record, every_number, drawn_records, flow_verdicts, drawn_flows, shown_to_readers,
-                  program):
+    for tests in (stored_cases, every_record, every_answer, every_number, drawn_records, flow_verdicts, drawn_flows,
+                  shown_to_readers, program):
         for good, words in tests():
             counts[bool(good)] += 1
             if not good:

@@ -56,7 +56,7 @@ unfolding loadedAs
 loaded text = ap (accepted hub) (struct-stands .table-back (loadOf text .table)) ∙ loads-accepted text
 
 pub calls-as-rules : CallsAsRules
-unfolding answered reply
+unfolding answered reply auditAnswer audited loadedAs loadOf
 calls-as-rules = record {
   table = call-table;
   number = λ s c. refl;
@@ -65,5 +65,10 @@ calls-as-rules = record {
   runs = call-runs;
   unknown = unknown-call;
   unknown-audit = unknown-audit;
+  audit-number = λ s i list buf. refl;
+  audit-len = λ s i list buf. refl;
+  loads = λ text. struct-stands .table-back (loadOf text .table);
+  loaded-number = λ text. refl;
+  loaded-line = λ text. refl;
   loaded = loaded;
 }

@@ -4,17 +4,18 @@ use Prim.Native.Nat.{ℕ}
 use mathlib.Core.Path.{_≡_}
 use mathlib.Core.Bool.{true, false}
 use mathlib.Core.List.{List}
+use lib.ListN.{length}
 use Rattle.rules.specs.declared.Outcome.the-variants.{Refused}
 use Rattle.rules.specs.Table.{accepted}
 use Rattle.rules.specs.Calls.{Call}
 use Rattle.rules.specs.Refusals.{numberOf, verdict, step}
-use Rattle.rules.specs.Record.{answer}
+use Rattle.rules.specs.Record.{answer, audit}
 use Rattle.rules.specs.Runs.{final}
 use Rattle.label.specs.Words.{words}
 use Rattle.monitor.specs.Table.{hub}
 use Rattle.layout.specs.declared.HubTable.{HubTable}
 use Rattle.layout.specs.Struct.{kindsKnown, tableOf}
-use Rattle.load.specs.Load.{loadOf}
+use Rattle.load.specs.Load.{verdictNumber, verdictLine, verdictOf, loadOf}
 use Rattle.hubffi.specs.Answers.{replyTo, auditAnswer, loadedAs}
 
 -- A call on a struct returns the rules' number and record, and the struct of the rules' next table; a refused one hands back
@@ -28,4 +29,9 @@ pub record CallsAsRules : Type 0 where
   pub runs : (s : HubTable) (cs : List (Call words)) → tableOf (final (λ u c. replyTo u c .table) s cs) ≡ final (step hub) (tableOf s) cs
   pub unknown : (s : HubTable) (c : Call words) → kindsKnown (s .slots) ≡ false → (replyTo s c .table ≡ s) × (replyTo s c .number ≡ 99)
   pub unknown-audit : (s : HubTable) (i : ℕ) (list buf : List ℕ) → kindsKnown (s .slots) ≡ false → auditAnswer s i list buf .number ≡ 99
+  pub audit-number : (s : HubTable) (i : ℕ) (list buf : List ℕ) → auditAnswer s i list buf .number ≡ numberOf (audit hub (tableOf s) i list buf .outcome)
+  pub audit-len : (s : HubTable) (i : ℕ) (list buf : List ℕ) → auditAnswer s i list buf .len ≡ length (audit hub (tableOf s) i list buf .part)
+  pub loads : (text : List ℕ) → tableOf (loadedAs (loadOf text) .table) ≡ loadOf text .table
+  pub loaded-number : (text : List ℕ) → loadedAs (loadOf text) .number ≡ verdictNumber (verdictOf text)
+  pub loaded-line : (text : List ℕ) → loadedAs (loadOf text) .line ≡ verdictLine (verdictOf text)
   pub loaded : (text : List ℕ) → accepted hub (tableOf (loadedAs (loadOf text) .table)) ≡ true

@@ -1,6 +1,6 @@
 -- Structs stand for tables.
 -- Assumes nothing.
-use Prim.Native.Nat.{ℕ, suc, _<_, _≤_}
+use Prim.Native.Nat.{ℕ, zero, suc, _<_, _≤_}
 use native.Mathlib.Omega.{arith}
 use mathlib.Core.Path.{_≡_, refl, sym, ap, ap₂}
 use mathlib.Core.Bool.{Bool, true, false, cond}
@@ -11,7 +11,7 @@ use borrow.Author.Tests.{ltb-false, leb-true, eqb-true, eqb-false, lt-ltb, le-lt
 use Rattle.rules.specs.declared.Kind.{Kind}
 use Rattle.rules.specs.declared.Kind.the-variants.{Free, Item, Program}
 use Rattle.rules.proofs.Facts.{and-left, and-right, both, contra, length-mapped}
-use Rattle.label.specs.Tags.{labelOf}
+use Rattle.label.specs.Tags.{labelOf, empty}
 use Rattle.entity.specs.declared.Entity.{Entity}
 use Rattle.entity.specs.Entity.{freeEntity}
 use Rattle.monitor.specs.declared.Table.{Table}
@@ -20,7 +20,7 @@ use Rattle.monitor.proofs.Form.{slots-length, len-le}
 use Rattle.layout.specs.declared.HubSlot.{HubSlot}
 use Rattle.layout.specs.declared.HubTable.{HubTable}
 use Rattle.layout.specs.Struct.{kindNumbered, kindNumber, kindsKnown, noLen, lenOf, slotEntity, slotAs, bitsOf, tableOf, structOf}
-use Rattle.layout.specs.Claims.{StructStands}
+use Rattle.layout.specs.Claims.{SlotRead, StructStands}
 
 -- ---- back and forth
 
@@ -123,5 +123,36 @@ module _ (s : HubTable) (f : formed (tableOf s) ≡ true) where
 unknown : (s : HubTable) → kindsKnown (s .slots) ≡ false → formed (tableOf s) ≡ false
 unknown s h = contra (formed (tableOf s)) (kindsKnown (s .slots)) (all-formed s) h
 
+-- ---- field by field
+
+not-over : (k : ℕ) → leb k 2 ≡ true → ltb 2 k ≡ false
+not-over k h = le-ltb 2 k (leb-true k 2 h)
+
+slot-read : (s : HubSlot) → SlotRead s (slotEntity s)
+slot-read s = record {
+  sec = refl;
+  int = refl;
+  sa = refl;
+  sd = refl;
+  ia = refl;
+  id = refl;
+  free = λ e. ap kindNumbered e;
+  item = λ e. ap kindNumbered e;
+  program = λ e. ap kindNumbered e;
+  len = λ h. ap (λ (b : Bool). cond b noLen (s .len)) (not-over (s .kind) h);
+}
+
+slots-read : (l : List HubSlot) (k : ℕ) → SlotRead (getD l k (slotAs freeEntity)) (getD (map slotEntity l) k freeEntity)
+slots-read [] k = slot-read (slotAs freeEntity)
+slots-read (s ∷ l) zero = slot-read s
+slots-read (s ∷ l) (suc k) = slots-read l k
+
+groups-read : (l : List ℕ) (k : ℕ) → getD (map labelOf l) k empty .bits ≡ getD l k 0
+unfolding empty
+groups-read [] k = refl
+groups-read (n ∷ l) zero = refl
+groups-read (n ∷ l) (suc k) = groups-read l k
+
 pub struct-stands : StructStands
-struct-stands = record { table-back = table-back; struct-back = struct-back; unknown = unknown }
+unfolding tableOf
+struct-stands = record { slot = λ s k. slots-read (s .slots) k; group = λ s k. groups-read (s .groups) k; table-back = table-back; struct-back = struct-back; unknown = unknown }

@@ -5,8 +5,9 @@ use mathlib.Core.Bool.{cond}
 use mathlib.Core.List.{List, [], _∷_, _++_}
 use lib.ListN.{length, drop, replicate}
 use lib.Seq.{sets}
-use Rattle.print.specs.declared.Line.{Line}
 use lib.Dec.{ltb, leb}
+use Rattle.text.specs.Ascii.{ascii}
+use Rattle.print.specs.declared.Line.{Line}
 
 -- the lower-case digit of a number below 16
 unfoldable pub digitText : ℕ → ℕ
@@ -35,15 +36,14 @@ decimalOnto (suc k) n ds = cond (ltb n 10) ((48 + n) ∷ ds) (decimalOnto k (n /
 unfoldable pub decimalText : ℕ → List ℕ
 decimalText n = decimalOnto 20 n []
 
--- `refused `
 abbrev pub refusedText : List ℕ
-refusedText = 114 ∷ 101 ∷ 102 ∷ 117 ∷ 115 ∷ 101 ∷ 100 ∷ 32 ∷ []
+refusedText = ascii "refused "
 
 -- `refused N line L`
 unfoldable pub refusedLine : ℕ → ℕ → List ℕ
 refusedLine n l =
     refusedText
-    ++ (decimalText n ++ ((32 ∷ 108 ∷ 105 ∷ 110 ∷ 101 ∷ 32 ∷ []) ++ (decimalText l ++ (10 ∷ []))))
+    ++ (decimalText n ++ (ascii " line " ++ (decimalText l ++ (10 ∷ []))))
 
 -- ---- the lines of an audit: a record, or `refused N`
 

@@ -43,7 +43,7 @@ use Rattle.round.proofs.Round.{output-runs}
 use Rattle.printed.specs.Watering.{watering, wateringPrints, WateringPrinted}
 
 -- what a text is read with
-reading : ℕ
+unfoldable pub reading : ℕ
 unfolding computed eqBytes indexOf digitOf digitIn withDigit decimalFrom decimalOf setFrom hexSetOf pairsFrom dataOf before linesOf lineEnd lineAt nextLine ahead fieldsIn hasNames namesOnce columnOf callColumns callNamed dataIf showBuffer callBy callOf kindNamed entityFormed entityColumns entityIn entityBy entityOf bytesPast linesPast start pastEmpty groupsAt callsAt rowsBad blockBad entitiesBad groupsBad callsBad orElse badLine callsFrom callColumnsIn callsOf fill breaking groupsFrom noGroups grouped withGroups entitiesIn groupsIn tableIn breakingIn refuseAt verdictOf entityAt withSlot emptyTable
 reading = 0
 

@@ -1,1 +1,2 @@
 pub mod Watering
+pub mod Columns

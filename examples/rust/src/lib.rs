@@ -3,6 +3,8 @@
 //!
 //! The table goes in and comes back by value. A refused call hands back the very table that came in.
 
+use std::mem::size_of;
+
 pub const SLOTS: usize = 32;
 pub const CONTENT: usize = 64;
 pub const GROUPS: usize = 8;
@@ -14,6 +16,14 @@ pub const PROGRAM: u8 = 2;
 
 pub const SECRECY: u8 = 0;
 pub const INTEGRITY: u8 = 1;
+
+pub const ADD_SECRECY: u8 = 0;
+pub const DROP_SECRECY: u8 = 1;
+pub const ADD_INTEGRITY: u8 = 2;
+pub const DROP_INTEGRITY: u8 = 3;
+
+/// The bytes of stack that a call needs at most.
+pub const STACK: usize = 32768;
 
 /// What stands in a slot. A set is a number: tag n, 0 to 63, has the weight 2 to the n.
 #[repr(C)]
@@ -61,6 +71,10 @@ pub struct Loaded {
     pub number: u8,
     pub line: usize,
 }
+
+// The layout that the archive has.
+const _: () = assert!(size_of::<Slot>() == 64 && size_of::<Table>() == 4168 && size_of::<Reply>() == 4192);
+const _: () = assert!(size_of::<Audited>() == 16 && size_of::<Loaded>() == 4184);
 
 extern "C" {
     fn hub_empty() -> Table;
