@@ -17,6 +17,7 @@ use Rattle.rules.specs.Refusals.{onAllowed, verdict, step}
 use Rattle.rules.specs.Runs.{final}
 use Rattle.rules.proofs.Facts.{and-left, and-right, both, or-right, or-rest, either}
 use Rattle.rules.proofs.Bounded.{all-at, all-of}
+use Rattle.rules.proofs.Held.{kept-by-place}
 use Rattle.rules.proofs.Groups.{stays-accepted}
 use Rattle.rules.proofs.Steps.{writes}
 use Rattle.label.specs.declared.Label.{Label}
@@ -62,16 +63,13 @@ module _ (e : Entity) (b : List ℕ) where
   unfolding keepsTo
   group-keeps g h = ap (λ (n : ℕ). leb n 1) (common-had g) ∙ le-leb _ _ h
 
-  -- ---- every group
+  -- ---- every group, by its place
 
   each-kept : (gs : List Label) → keepsEach words gs (held (slotOf e b)) ≡ true → (i : ℕ) → i < length gs → tagsHad (getD gs i empty) e ≤ 1
-  each-kept [] h i l = omega arith
-  each-kept (g ∷ gs) h zero l = group-kept g (and-left (words .keeps g (held (slotOf e b))) _ h)
-  each-kept (g ∷ gs) h (suc i) l = each-kept gs (and-right (words .keeps g (held (slotOf e b))) _ h) i (omega arith)
+  each-kept gs h i l = group-kept (getD gs i empty) (kept-by-place empty gs (slotOf e b) .each h i l)
 
   each-keeps : (gs : List Label) → ((i : ℕ) → i < length gs → tagsHad (getD gs i empty) e ≤ 1) → keepsEach words gs (held (slotOf e b)) ≡ true
-  each-keeps [] h = refl
-  each-keeps (g ∷ gs) h = both (words .keeps g (held (slotOf e b))) _ (group-keeps g (h 0 (omega arith))) (each-keeps gs (λ i l. h (suc i) (omega arith)))
+  each-keeps gs h = kept-by-place empty gs (slotOf e b) .all (λ i l. group-keeps (getD gs i empty) (h i l))
 
 -- a group of no tags, which a place behind the array would have
 sum-none : (k : ℕ) → sumOf k (λ n. 0) ≡ 0

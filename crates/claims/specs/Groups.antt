@@ -38,13 +38,13 @@ pub record AcceptedSpelt : Type 0 where
   pub kept : (t : Table) → accepted hub t ≡ true → GroupsKept t
   pub enough : (t : Table) → InForm t → GroupsKept t → accepted hub t ≡ true
 
-pub record StillKept (t u : Table) : Type 0 where
+pub record StillKept (u : Table) : Type 0 where
   pub form : InForm u
   pub kept : GroupsKept u
 
 -- No list of calls leads from a table in form that keeps to its groups to one that does not
 abbrev pub NoGroupBroken : Type 0
-NoGroupBroken = (t : Table) (cs : List (Call words)) → InForm t → GroupsKept t → StillKept t (final (step hub) t cs)
+NoGroupBroken = (t : Table) (cs : List (Call words)) → InForm t → GroupsKept t → StillKept (final (step hub) t cs)
 
 -- The array of groups and their count are the very same after any calls, from any table
 pub record GroupsFixed (t u : Table) : Type 0 where

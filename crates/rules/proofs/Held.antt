@@ -3,9 +3,9 @@
 use mathlib.Core.Path.{_≡_, refl, ap₂, _∙_}
 use mathlib.Core.Bool.{Bool, true, false, _&&_}
 use mathlib.Core.List.{List, [], _∷_}
-use mathlib.Core.Option.{some}
-use Prim.Native.Nat.{ℕ, zero, suc}
-use lib.ListN.{getElem?}
+use Prim.Native.Nat.{ℕ, zero, suc, _<_}
+use native.Mathlib.Omega.{arith}
+use lib.ListN.{length, getD}
 use Rattle.rules.specs.Labels.{Labels}
 use Rattle.rules.specs.Table.{held, keepsEach}
 use Rattle.rules.specs.Laws.{OrderLaws}
@@ -31,15 +31,15 @@ module _ {A : Labels} (O : OrderLaws A) where
       ∙ ap₂ _&&_ (join-below (A .join (e .sec) (e .int)) (A .join (r .sa) (r .sd)) l ∙ ap₂ _&&_ (join-below (e .sec) (e .int) l) (join-below (r .sa) (r .sd) l)) (join-below (r .ia) (r .id) l)
       ∙ six (A .below (e .sec) l) (A .below (e .int) l) (A .below (r .sa) l) (A .below (r .sd) l) (A .below (r .ia) l) (A .below (r .id) l)
 
-module _ (A : Labels) (l : A .Label) where
-  each : (gs : List (A .Group)) → keepsEach A gs l ≡ true → (k : ℕ) (g : A .Group) → getElem? gs k ≡ some g → A .keeps g l ≡ true
-  each [] h k g e = cc
-  each (x ∷ gs) h zero g e = let q : x ≡ g = cc in rw q at (and-left (A .keeps x l) _ h)
-  each (x ∷ gs) h (suc k) g e = each gs (and-right (A .keeps x l) _ h) k g e
+module _ (A : Labels) (d : A .Group) (l : A .Label) where
+  each : (gs : List (A .Group)) → keepsEach A gs l ≡ true → (k : ℕ) → k < length gs → A .keeps (getD gs k d) l ≡ true
+  each [] h k m = absurd (omega arith)
+  each (x ∷ gs) h zero m = and-left (A .keeps x l) _ h
+  each (x ∷ gs) h (suc k) m = each gs (and-right (A .keeps x l) _ h) k (omega arith)
 
-  all : (gs : List (A .Group)) → ((k : ℕ) (g : A .Group) → getElem? gs k ≡ some g → A .keeps g l ≡ true) → keepsEach A gs l ≡ true
+  all : (gs : List (A .Group)) → ((k : ℕ) → k < length gs → A .keeps (getD gs k d) l ≡ true) → keepsEach A gs l ≡ true
   all [] h = refl
-  all (x ∷ gs) h = both (A .keeps x l) _ (h 0 x refl) (all gs (λ k. h (suc k)))
+  all (x ∷ gs) h = both (A .keeps x l) _ (h 0 (omega arith)) (all gs (λ k m. h (suc k) (omega arith)))
 
 pub kept-by-place : {A : Labels} → KeptByPlace A
-kept-by-place {A} gs e = record { each = each A (held e) gs; all = all A (held e) gs }
+kept-by-place {A} d gs e = record { each = each A d (held e) gs; all = all A d (held e) gs }

@@ -4,9 +4,8 @@
 use mathlib.Core.Path.{_≡_}
 use mathlib.Core.Bool.{true, _&&_}
 use mathlib.Core.List.{List}
-use mathlib.Core.Option.{some}
-use Prim.Native.Nat.{ℕ}
-use lib.ListN.{getElem?}
+use Prim.Native.Nat.{ℕ, _<_}
+use lib.ListN.{length, getD}
 use Rattle.rules.specs.Labels.{Labels}
 use Rattle.rules.specs.Table.{Slot, held, keepsAll}
 
@@ -17,10 +16,11 @@ HoldsSix A = (e : Slot A) (l : A .Label) → A .below (held e) l
     ≡ A .below (e .sec) l && (A .below (e .int) l
     && (A .below (e .rights .sa) l && (A .below (e .rights .sd) l && (A .below (e .rights .ia) l && A .below (e .rights .id) l))))
 
--- An entity that keeps to the groups keeps to each, whatever its place in the list; and one that keeps to each keeps to them
-pub record EachKept {A : Labels} (gs : List (A .Group)) (e : Slot A) : Type 0 where
-  pub each : keepsAll gs e ≡ true → (k : ℕ) (g : A .Group) → getElem? gs k ≡ some g → A .keeps g (held e) ≡ true
-  pub all : ((k : ℕ) (g : A .Group) → getElem? gs k ≡ some g → A .keeps g (held e) ≡ true) → keepsAll gs e ≡ true
+-- An entity that keeps to the groups keeps to each, whatever its place in the list; and one that keeps to each keeps to them. (Behind
+-- the list would stand d, whichever group that is.)
+pub record EachKept {A : Labels} (d : A .Group) (gs : List (A .Group)) (e : Slot A) : Type 0 where
+  pub each : keepsAll gs e ≡ true → (k : ℕ) → k < length gs → A .keeps (getD gs k d) (held e) ≡ true
+  pub all : ((k : ℕ) → k < length gs → A .keeps (getD gs k d) (held e) ≡ true) → keepsAll gs e ≡ true
 
 abbrev pub KeptByPlace : Labels → Type 0
-KeptByPlace A = (gs : List (A .Group)) (e : Slot A) → EachKept gs e
+KeptByPlace A = (d : A .Group) (gs : List (A .Group)) (e : Slot A) → EachKept d gs e
