@@ -11,7 +11,8 @@ use lib.ListN.{length}
 use borrow.Author.Tests.{eqb-true}
 use Rattle.rules.specs.declared.Call.{Call as Named}
 use Rattle.text.specs.Lines.{fieldsIn, fieldAt}
-use Rattle.text.specs.Answers.{asData, splitOf, fieldBy}
+use Rattle.values.specs.Answers.{asData}
+use Rattle.text.specs.Split.{splitOf, fieldBy}
 use Rattle.text.proofs.Fields.{count-is, field-is}
 use Rattle.text.specs.Options.{_>>=_}
 use Rattle.callrows.specs.declared.CallColumns.{CallColumns}

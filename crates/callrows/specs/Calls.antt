@@ -13,15 +13,16 @@ use Rattle.rules.specs.Table.{free}
 use Rattle.rules.specs.Calls.{Call, fieldsOf, kindOf, moved}
 use Rattle.label.specs.Calls.{callWith}
 use Rattle.label.specs.Words.{words}
-use Rattle.text.specs.declared.Number.{Number}
-use Rattle.text.specs.declared.Number.the-variants as Number
-use Rattle.text.specs.declared.Size.{Size}
-use Rattle.text.specs.declared.Size.the-variants as Size
-use Rattle.text.specs.declared.Data.{Data}
+use Rattle.values.specs.declared.Number.{Number}
+use Rattle.values.specs.declared.Number.the-variants as Number
+use Rattle.values.specs.declared.Size.{Size}
+use Rattle.values.specs.declared.Size.the-variants as Size
+use Rattle.values.specs.declared.Data.{Data}
 use Rattle.text.specs.Ascii.{ascii}
-use Rattle.text.specs.Bytes.{eqBytes, decimalOf, dataOf, dash}
+use Rattle.text.specs.Bytes.{eqBytes}
+use Rattle.values.specs.Values.{decimalOf, dataOf, dash}
 use Rattle.text.specs.Lines.{fieldsIn, fieldAt, columnOf}
-use Rattle.text.specs.Answers.{asNumber, room, noRoom}
+use Rattle.values.specs.Answers.{asNumber, dataBytes, noBytes}
 use Rattle.text.specs.Options.{_>>=_}
 use Rattle.callrows.specs.declared.CallColumns.{CallColumns}
 use Rattle.callrows.specs.declared.CallRead.{CallRead}
@@ -127,8 +128,8 @@ callOf cs fs =
 
 -- what the code answers
 abbrev pub asCallRow : Option CallSaid → CallRow
-asCallRow none = record { read = CallRead.Bad; len = 0; bytes = noRoom }
-asCallRow (some q) = record { read = CallRead.Call (q .call); len = length (q .bytes); bytes = room (q .bytes) }
+asCallRow none = record { read = CallRead.Bad; len = 0; bytes = noBytes }
+asCallRow (some q) = record { read = CallRead.Call (q .call); len = length (q .bytes); bytes = dataBytes (q .bytes) }
 
 -- a call with its data, in a line whose fields fit
 abbrev sized : Named → List ℕ → Size → CallRow

@@ -3,13 +3,13 @@ ghost use mathlib.Core.Path.{_≡_};
 ghost use mathlib.Core.Bool.{cond};
 ghost use mathlib.Core.Option.{none};
 ghost use Rattle.text.specs.Lines.{fieldsIn, namesOnce};
-ghost use Rattle.text.specs.Answers.{asData};
+ghost use Rattle.values.specs.Answers.{asData};
 ghost use Rattle.callrows.specs.Calls.{callNames, callColumns, callNamed, withUses, usesOf, valueIn, fits, dataIf, callBy, callOf, asCallRow, callRowWith};
 ghost use Rattle.callrows.specs.declared.CallRead.the-variants as CallRead;
 use rules::Call;
-use text::Data;
-use text::Number;
-use text::Size;
+use values::Data;
+use values::Number;
+use values::Size;
 
 // The columns of the calls, found in their line of names.
 pub struct CallColumns {
@@ -142,19 +142,19 @@ fn data_if(used: bool, f: &[u8]) -> Data
     ensures { λ r. ⌜ r ≡ asData (dataIf used (now (f .entry))) ⌝ }
 {
     if used {
-        return text::data_field(f, 255);
+        return values::data_field(f, 255);
     }
     if text::same(f, b"-") {
-        return text::empty_data();
+        return values::empty_data();
     }
-    text::no_data()
+    values::no_data()
 }
 
 // What a bad line gives.
 fn no_call() -> CallRow
     ensures { λ r. ⌜ r ≡ asCallRow none ⌝ }
 {
-    let none = text::no_data();
+    let none = values::no_data();
     let bytes = none.bytes;
     CallRow {
         read: CallRead::Bad,
@@ -194,10 +194,10 @@ fn call_by(
 ) -> CallRow
     ensures { λ r. ⌜ r ≡ asCallRow (callBy six (now (name .entry)) (now (caller .entry)) (now (other .entry)) (now (set .entry)) (now (tag .entry)) (now (bytes .entry))) ⌝ }
 {
-    let i = text::decimal(caller, 255);
-    let j = text::decimal(other, 255);
-    let n = text::decimal(set, 255);
-    let p = text::decimal(tag, 255);
+    let i = values::decimal(caller, 255);
+    let j = values::decimal(other, 255);
+    let n = values::decimal(set, 255);
+    let p = values::decimal(tag, 255);
     let named = call_named(name, value_in(i), value_in(j), value_in(n), value_in(p));
     let CallRead::Call(call) = named else {
         return no_call();

@@ -1,21 +1,25 @@
 -- Cases P1 to P14 of document 01 and the worked rounds follow from the definitions, by computing them.
 -- Assumes nothing.
-use mathlib.Core.Path.{_≡_, refl}
-use mathlib.Core.Bool.{true}
-use mathlib.Core.List.{List, [], _∷_}
+use mathlib.Core.Path.{_≡_, refl, ap, ap₂}
+use mathlib.Core.Bool.{Bool, true, cond, _&&_}
+use mathlib.Core.List.{List, [], _∷_, map}
 use Prim.Native.Nat.{ℕ}
-use lib.ListN.{replicate}
+use lib.Dec.{leb, eqb}
+use lib.ListN.{length, getD, replicate}
 use Rattle.rules.specs.Bounded.{allBelow}
-use Rattle.rules.specs.Table.{Plain, plain, accepted}
-use Rattle.rules.specs.Refusals.{step}
-use Rattle.rules.specs.Record.{audit, recordsIn, shownOf}
+use Rattle.rules.specs.Table.{Slot, Tables, Plain, plain, free, slotFormed, slotKeeps, accepted}
+use Rattle.rules.specs.Calls.{Call}
+use Rattle.rules.specs.Refusals.{numberOf, verdict, step}
+use Rattle.rules.specs.Record.{answer, audit, recordsIn, shownOf}
 use Rattle.rules.specs.Runs.{final, records}
 use Rattle.rules.specs.ByNumber.{passing}
 use Rattle.rules.proofs.Facts.{and-left}
+use Rattle.rules.proofs.Steps.{free-formed}
 use Rattle.rules.proofs.Plain.{plain-laws}
 use Rattle.label.specs.Tags.{tagOf, setOf, sumOf, subsetIn, equalIn, unionIn, withIn, withoutIn, commonIn, bytesIn, empty, hasTag, subsetOf, equalOf, unionOf, withTag, withoutTag, commonOf, keepsTo, bytesOf, fromBytesIn, fromBytes}
 use Rattle.label.specs.Words.{words}
-use Rattle.cases.specs.Cases.{CasesHold, EachOccurs}
+use Rattle.label.proofs.Words.{words-order}
+use Rattle.cases.specs.Cases.{Small, tableOf, Case, cases, given, turnedDown, CasesHold, EachOccurs}
 use Rattle.cases.specs.Rounds.{Line, callsMade, told, turns, expected, roundTable, round, secondTable, second, watchedTable, Holds, RoundHolds, SecondHolds, AuditsHold}
 use Rattle.cases.proofs.Sure.{sure, end, round-sure, round-told, round-audit}
 
@@ -24,13 +28,44 @@ unfoldable pub computed : ℕ
 unfolding allBelow tagOf setOf sumOf subsetIn equalIn unionIn withIn withoutIn commonIn bytesIn empty hasTag subsetOf equalOf unionOf withTag withoutTag commonOf keepsTo bytesOf fromBytesIn fromBytes recordsIn shownOf passing
 computed = 0
 
+-- tables whose form is tested at the first two slots, as that of a small one can be
+abbrev tested : Tables words
+tested = record {
+  Table = Plain words;
+  formed = λ t. (slotFormed (t .slots 1) && (slotFormed (t .slots 0) && true)) && leb (length (t .groups)) 8;
+  slot = λ t i. t .slots i;
+  groups = λ t. t .groups;
+  store = plain words .store;
+}
+
+all-two : (f : Slot words → Bool) (a b : Slot words) → f free ≡ true → allBelow 32 (λ i. f (cond (eqb i 0) a (cond (eqb i 1) b free))) ≡ f b && (f a && true)
+unfolding allBelow
+all-two f a b h = rw h
+
+formed-is : (t : Small) → plain words .formed (tableOf t) ≡ tested .formed (tableOf t)
+formed-is t = ap (λ (x : Bool). x && leb (length (t .groups)) 8) (all-two slotFormed (t .caller) (t .receiver) (free-formed words-order))
+
+given-is : (k : Case) → given k ≡ record {
+  accepted = tested .formed (tableOf (k .table)) && allBelow 32 (λ i. slotKeeps (k .table .groups) (tableOf (k .table) .slots i));
+  number = getD (answer tested (tableOf (k .table)) (k .call) .entry) 3 0;
+  count = getD (answer tested (tableOf (k .table)) (k .call) .entry) 4 0;
+}
+given-is k = rw (formed-is (k .table))
+
+number-is : (k : Small × Call words) → numberOf (verdict (plain words) (tableOf (k .0)) (k .1)) ≡ numberOf (verdict tested (tableOf (k .0)) (k .1))
+number-is k = rw (formed-is (k .0))
+
+map-is : {X Y : Type 0} {f g : X → Y} → ((x : X) → f x ≡ g x) → (xs : List X) → map f xs ≡ map g xs
+map-is h [] = refl
+map-is h (x ∷ xs) = ap₂ _∷_ (h x) (map-is h xs)
+
 pub cases-hold : CasesHold
 unfolding computed
-cases-hold = refl
+cases-hold = map-is given-is cases
 
 pub each-occurs : EachOccurs
 unfolding computed
-each-occurs = refl
+each-occurs = map-is number-is turnedDown
 
 round-plays : turns (sure (plain words)) roundTable round ≡ expected roundTable round
 unfolding computed

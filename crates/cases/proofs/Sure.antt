@@ -2,14 +2,14 @@
 -- call need not be computed from its start.
 -- Assumes nothing.
 use mathlib.Core.Path.{_≡_, refl, ap, ap₂, sym, _∙_}
-use mathlib.Core.Bool.{true}
+use mathlib.Core.Bool.{Bool, true, cond}
 use mathlib.Core.List.{List, [], _∷_, _++_}
 use Prim.Native.Nat.{ℕ}
 use Rattle.rules.specs.Table.{Tables}
 use Rattle.rules.specs.Calls.{Call}
 use Rattle.rules.specs.Refusals.{step}
 use Rattle.rules.specs.Record.{answer, audit}
-use Rattle.rules.specs.Runs.{final, trace, records}
+use Rattle.rules.specs.Runs.{final, trace, kept, records}
 use Rattle.rules.specs.Laws.{TableLaws}
 use Rattle.rules.proofs.Steps.{step-formed}
 use Rattle.label.specs.Words.{words}
@@ -37,6 +37,12 @@ module _ (T : Tables words) (L : TableLaws T) where
 
   sure-answer : (t : T .Table) (c : Call words) → T .formed t ≡ true → answer T t c ≡ answer (sure T) t c
   sure-answer t c f = rw f
+
+  -- what a run keeps
+  pub kept-sure : (f : T .Table → Call words → Bool) (t : T .Table) (cs : List (Call words)) → T .formed t ≡ true → kept (step T) f t cs ≡ kept (step (sure T)) f t cs
+  kept-sure f t [] h = refl
+  kept-sure f t (c ∷ cs) h = ap (λ (xs : List (Call words)). cond (f t c) xs (c ∷ xs))
+      (kept-sure f (step T t c) cs (step-formed T words-order L t c h) ∙ ap (λ (u : T .Table). kept (step (sure T)) f u cs) (sure-step t c h))
 
   -- the table that a line hands back is in form
   after-formed : (t u : T .Table) (c : Call words) → T .formed t ≡ true → step T t c ≡ u → T .formed u ≡ true

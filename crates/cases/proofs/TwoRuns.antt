@@ -2,17 +2,19 @@
 -- Assumes nothing.
 use mathlib.Core.Path.{_≡_, refl, sym, _∙_}
 use mathlib.Core.Bool.{Bool, true, false, cond, false≢true}
-use mathlib.Core.List.{[], _∷_}
+use mathlib.Core.List.{[], _∷_, map}
 use Prim.Native.Nat.{ℕ}
 use lib.Dec.{ltb, eqb}
-use Rattle.rules.specs.Table.{Slot, plain, free, at}
+use Rattle.rules.specs.Table.{Slot, plain, free, at, accepted}
 use Rattle.rules.specs.Calls.{fetch, addTag, dropTag}
 use Rattle.rules.specs.Refusals.{step}
-use Rattle.rules.specs.Runs.{bears, kept, struck, SlotsAgree}
+use Rattle.rules.specs.Runs.{bears, hiddenAt, kept, struck, SlotsAgree}
 use Rattle.rules.proofs.Facts.{either}
+use Rattle.rules.proofs.Plain.{plain-laws}
 use Rattle.label.specs.Tags.{tagOf, empty, hasTag}
 use Rattle.label.specs.Words.{words}
 use Rattle.cases.specs.Rounds.{callsMade, roundTable, round, otherTable, longer, TwoRunsHold}
+use Rattle.cases.proofs.Sure.{kept-sure}
 use Rattle.cases.proofs.Cases.{computed}
 
 -- nobody of the round has the right to drop the tag
@@ -42,17 +44,28 @@ agree i = either (ltb i 32) (λ e. rw e (go (eqb i 0))) (λ e. rw e (agree-same 
 
 round-kept : kept (step (plain words)) (struck (plain words) (bears words 0)) roundTable (callsMade round) ≡ fetch 1 0 ∷ addTag 1 0 0 ∷ dropTag 1 0 0 ∷ []
 unfolding computed
-round-kept = refl
+round-kept = kept-sure (plain words) (plain-laws words) (struck (plain words) (bears words 0)) roundTable (callsMade round) refl
 
 other-kept : kept (step (plain words)) (struck (plain words) (bears words 0)) otherTable longer ≡ fetch 1 0 ∷ addTag 1 0 0 ∷ dropTag 1 0 0 ∷ []
 unfolding computed
-other-kept = refl
+other-kept = kept-sure (plain words) (plain-laws words) (struck (plain words) (bears words 0)) otherTable longer refl
+
+round-accepted : accepted (plain words) roundTable ≡ true
+unfolding computed
+round-accepted = refl
+
+other-accepted : accepted (plain words) otherTable ≡ true
+unfolding computed
+other-accepted = refl
+
+hidden-are : map (hiddenAt (plain words) (bears words 0) roundTable) (0 ∷ 1 ∷ 2 ∷ 7 ∷ 40 ∷ []) ≡ true ∷ false ∷ false ∷ false ∷ false ∷ []
+unfolding computed
+hidden-are = refl
 
 pub two-runs-hold : TwoRunsHold
-unfolding computed
 two-runs-hold = record {
   kept = round-kept;
-  hidden = refl;
+  hidden = hidden-are;
   answered = λ c h. rw h;
-  premise = record { left = refl; right = refl; undroppable = λ i p. undroppable i; tables = record { slots = agree; groups = refl }; calls = round-kept ∙ sym other-kept };
+  premise = record { left = round-accepted; right = other-accepted; undroppable = λ i p. undroppable i; tables = record { slots = agree; groups = refl }; calls = round-kept ∙ sym other-kept };
 }

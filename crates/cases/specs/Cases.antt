@@ -17,15 +17,23 @@ use Rattle.label.specs.declared.Label.{Label}
 use Rattle.label.specs.Tags.{labelOf, empty}
 use Rattle.label.specs.Words.{words}
 
+-- a small table: slot 0 holds the caller, slot 1 the receiver, the others are free
+pub record Small : Type 0 where
+  pub groups : List Label
+  pub caller : Slot words
+  pub receiver : Slot words
+
+abbrev pub tableOf : Small → Plain words
+tableOf t = record { slots = λ i. cond (eqb i 0) (t .caller) (cond (eqb i 1) (t .receiver) free); groups = t .groups }
+
+abbrev small : List Label → Slot words → Slot words → Small
+small groups a b = record { groups = groups; caller = a; receiver = b }
+
 pub record Case : Type 0 where
-  pub table : Plain words
+  pub table : Small
   pub call : Call words
   pub number : ℕ
   pub count : ℕ
-
--- slot 0 holds the caller, slot 1 the receiver, the others are free
-abbrev hub : List Label → Slot words → Slot words → Plain words
-hub groups a b = record { slots = λ i. cond (eqb i 0) a (cond (eqb i 1) b free); groups = groups }
 
 -- a program with this S, I, rights to add to S and to drop from S, and content
 abbrev program : Label → Label → Label → Label → List ℕ → Slot words
@@ -40,27 +48,27 @@ three = 1 ∷ 2 ∷ 3 ∷ []
 abbrev pub cases : List Case
 cases =
     -- P1 S {0} sends to S {0,1}, I empty; P2 the reverse
-    record { table = hub [] (labelled (labelOf 1) empty three) (labelled (labelOf 3) empty []); call = send 0 1; number = 0; count = 3 }
-    ∷ record { table = hub [] (labelled (labelOf 3) empty three) (labelled (labelOf 1) empty []); call = send 0 1; number = 7; count = 0 }
+    record { table = small [] (labelled (labelOf 1) empty three) (labelled (labelOf 3) empty []); call = send 0 1; number = 0; count = 3 }
+    ∷ record { table = small [] (labelled (labelOf 3) empty three) (labelled (labelOf 1) empty []); call = send 0 1; number = 7; count = 0 }
     -- P3 I {} sends to I {2}, S empty; P4 the reverse
-    ∷ record { table = hub [] (labelled empty empty three) (labelled empty (labelOf 4) []); call = send 0 1; number = 7; count = 0 }
-    ∷ record { table = hub [] (labelled empty (labelOf 4) three) (labelled empty empty []); call = send 0 1; number = 0; count = 3 }
+    ∷ record { table = small [] (labelled empty empty three) (labelled empty (labelOf 4) []); call = send 0 1; number = 7; count = 0 }
+    ∷ record { table = small [] (labelled empty (labelOf 4) three) (labelled empty empty []); call = send 0 1; number = 0; count = 3 }
     -- P5 send to itself, 64 bytes
-    ∷ record { table = hub [] (labelled empty empty (replicate 64 7)) free; call = send 0 0; number = 0; count = 64 }
+    ∷ record { table = small [] (labelled empty empty (replicate 64 7)) free; call = send 0 0; number = 0; count = 64 }
     -- P6 add tag 63 to S with the right; P7 add tag 64
-    ∷ record { table = hub [] (program empty empty (labelOf (2 ^ 63)) empty three) free; call = addTag 0 0 63; number = 0; count = 0 }
-    ∷ record { table = hub [] (program empty empty (labelOf (2 ^ 63)) empty three) free; call = addTag 0 0 64; number = 2; count = 0 }
+    ∷ record { table = small [] (program empty empty (labelOf (2 ^ 63)) empty three) free; call = addTag 0 0 63; number = 0; count = 0 }
+    ∷ record { table = small [] (program empty empty (labelOf (2 ^ 63)) empty three) free; call = addTag 0 0 64; number = 2; count = 0 }
     -- P8 drop a tag not worn, no right
-    ∷ record { table = hub [] (labelled empty empty three) free; call = dropTag 0 0 5; number = 10; count = 0 }
+    ∷ record { table = small [] (labelled empty empty three) free; call = dropTag 0 0 5; number = 10; count = 0 }
     -- P9 put 64 bytes; P10 put 65
-    ∷ record { table = hub [] (labelled empty empty three) free; call = put 0 (replicate 64 7); number = 0; count = 64 }
-    ∷ record { table = hub [] (labelled empty empty three) free; call = put 0 (replicate 65 7); number = 5; count = 0 }
+    ∷ record { table = small [] (labelled empty empty three) free; call = put 0 (replicate 64 7); number = 0; count = 64 }
+    ∷ record { table = small [] (labelled empty empty three) free; call = put 0 (replicate 65 7); number = 5; count = 0 }
     -- P11 group {0,1}, the receiver wears only 0 and has no rights, the caller hands its right to drop 1; P12 the same with tag 0
-    ∷ record { table = hub (labelOf 3 ∷ []) (program empty empty empty (labelOf 2) three) (labelled (labelOf 1) empty []); call = hand 0 1 1 1; number = 11; count = 0 }
-    ∷ record { table = hub (labelOf 3 ∷ []) (program empty empty empty (labelOf 1) three) (labelled (labelOf 1) empty []); call = hand 0 1 1 0; number = 0; count = 0 }
+    ∷ record { table = small (labelOf 3 ∷ []) (program empty empty empty (labelOf 2) three) (labelled (labelOf 1) empty []); call = hand 0 1 1 1; number = 11; count = 0 }
+    ∷ record { table = small (labelOf 3 ∷ []) (program empty empty empty (labelOf 1) three) (labelled (labelOf 1) empty []); call = hand 0 1 1 0; number = 0; count = 0 }
     -- P13 show 3 bytes into 2; P14 into 3
-    ∷ record { table = hub [] (labelled empty empty three) free; call = show 0 (replicate 2 0); number = 6; count = 0 }
-    ∷ record { table = hub [] (labelled empty empty three) free; call = show 0 (replicate 3 0); number = 0; count = 3 }
+    ∷ record { table = small [] (labelled empty empty three) free; call = show 0 (replicate 2 0); number = 6; count = 0 }
+    ∷ record { table = small [] (labelled empty empty three) free; call = show 0 (replicate 3 0); number = 0; count = 3 }
     ∷ []
 
 -- what a case is about: whether its table is accepted, and what the call's record says in bytes 3 and 4
@@ -71,9 +79,9 @@ pub record Result : Type 0 where
 
 abbrev pub given : Case → Result
 given k = record {
-  accepted = accepted (plain words) (k .table);
-  number = getD (answer (plain words) (k .table) (k .call) .entry) 3 0;
-  count = getD (answer (plain words) (k .table) (k .call) .entry) 4 0;
+  accepted = accepted (plain words) (tableOf (k .table));
+  number = getD (answer (plain words) (tableOf (k .table)) (k .call) .entry) 3 0;
+  count = getD (answer (plain words) (tableOf (k .table)) (k .call) .entry) 4 0;
 }
 
 abbrev pub stated : Case → Result
@@ -85,13 +93,13 @@ CasesHold = map given cases ≡ map stated cases
 
 -- ---- each refusal of a call occurs: for every number that is listed, in order, a table and a call that it turns down
 
-abbrev two : Slot words → Plain words
-two b = hub [] (program empty empty (labelOf 1) empty three) b
+abbrev two : Slot words → Small
+two b = small [] (program empty empty (labelOf 1) empty three) b
 
 abbrev item : Label → Slot words
 item sa = record { kind = Item; sec = empty; int = empty; rights = record { sa = sa; sd = empty; ia = empty; id = empty }; content = [] }
 
-abbrev pub turnedDown : List (Plain words × Call words)
+abbrev pub turnedDown : List (Small × Call words)
 turnedDown =
     (two free, put 1 three)
     ∷ (two free, send 0 32)
@@ -103,9 +111,9 @@ turnedDown =
     ∷ (two (labelled empty empty []), release 0 1)
     ∷ (two (item empty), hand 0 1 0 0)
     ∷ (two free, addTag 0 0 1)
-    ∷ (hub (labelOf 3 ∷ []) (program empty empty (labelOf 1) empty three) (labelled (labelOf 2) empty []), hand 0 1 0 0)
+    ∷ (small (labelOf 3 ∷ []) (program empty empty (labelOf 1) empty three) (labelled (labelOf 2) empty []), hand 0 1 0 0)
     ∷ (two (item (labelOf 1)), put 0 three)
     ∷ []
 
 abbrev pub EachOccurs : Type 0
-EachOccurs = map (λ k. numberOf (verdict (plain words) (k .0) (k .1))) turnedDown ≡ passing 256 listed
+EachOccurs = map (λ k. numberOf (verdict (plain words) (tableOf (k .0)) (k .1))) turnedDown ≡ passing 256 listed

@@ -22,7 +22,7 @@ use Rattle.label.proofs.Words.{words-order}
 use Rattle.entity.specs.declared.Entity.{Entity}
 use Rattle.entity.specs.Entity.{slotOf}
 use Rattle.block.specs.Block.{blockAt}
-use Rattle.cases.specs.Cases.{Case, cases, Result, given, stated}
+use Rattle.cases.specs.Cases.{tableOf, Case, cases, Result, given, stated}
 use Rattle.cases.specs.Rounds.{Line, callsMade, Holds}
 use Rattle.cases.proofs.Cases.{cases-hold, round-holds, second-holds}
 use Rattle.monitor.specs.Table.{formed, groupsOf, hub, emptyTable}
@@ -92,9 +92,9 @@ module _ (p : Plain words) (f : plain words .formed p ≡ true) where
 case-too : (k : Case) → given k ≡ stated k → givenAtHub k ≡ stated k
 case-too k e =
     let a = ap (λ (r : Result). r .accepted) e in
-    let f = and-left (plain words .formed (k .table)) _ a in
-    let s = same-answer words-order hub (plain words) hub-laws (plain-laws words) (tableHolding (k .table)) (k .table) (held (k .table) f) (k .call) in
-    let b = accepted-too (k .table) f a ∙ sym a in
+    let f = and-left (plain words .formed (tableOf (k .table))) _ a in
+    let s = same-answer words-order hub (plain words) hub-laws (plain-laws words) (tableHolding (tableOf (k .table))) (tableOf (k .table)) (held (tableOf (k .table)) f) (k .call) in
+    let b = accepted-too (tableOf (k .table)) f a ∙ sym a in
     (λ z. record { accepted = b z; number = getD (s z .entry) 3 0; count = getD (s z .entry) 4 0 }) ∙ e
 
 all-too : (ks : List Case) → map given ks ≡ map stated ks → map givenAtHub ks ≡ map stated ks

@@ -11,7 +11,7 @@ use Rattle.rules.specs.Record.{answer}
 use Rattle.rules.specs.Runs.{trace}
 use Rattle.label.specs.Tags.{empty}
 use Rattle.label.specs.Words.{words}
-use Rattle.cases.specs.Cases.{Case, cases, Result, stated}
+use Rattle.cases.specs.Cases.{tableOf, Case, cases, Result, stated}
 use Rattle.cases.specs.Rounds.{Line, callsMade, told, roundTable, round, secondTable, second}
 use Rattle.monitor.specs.declared.Table.{Table}
 use Rattle.monitor.specs.Table.{hub, emptyTable}
@@ -31,9 +31,9 @@ tableHolding p = filledTo p 32
 
 abbrev pub givenAtHub : Case → Result
 givenAtHub k = record {
-  accepted = accepted hub (tableHolding (k .table));
-  number = getD (answer hub (tableHolding (k .table)) (k .call) .entry) 3 0;
-  count = getD (answer hub (tableHolding (k .table)) (k .call) .entry) 4 0;
+  accepted = accepted hub (tableHolding (tableOf (k .table)));
+  number = getD (answer hub (tableHolding (tableOf (k .table))) (k .call) .entry) 3 0;
+  count = getD (answer hub (tableHolding (tableOf (k .table))) (k .call) .entry) 4 0;
 }
 
 -- Each of the fourteen tables is accepted as a struct too, and each call on it gives the stated number and bytes moved

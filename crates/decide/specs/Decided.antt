@@ -33,7 +33,7 @@ callerDecided s = first (99 if not (s .formed) else 1 if not (isProgram (s .call
 
 -- an audit's refusals
 abbrev pub auditDecided : Seen → Bool → ℕ → ℕ → Outcome
-auditDecided s whole room count = first (auditRefusals (s .formed) (isProgram (s .caller .kind)) whole room count)
+auditDecided s whole room size = first (auditRefusals (s .formed) (isProgram (s .caller .kind)) whole room size)
 
 -- ---- one refusal after another
 

@@ -9,8 +9,6 @@ ghost use Rattle.load.specs.Load.{loadOf};
 ghost use Rattle.layout.specs.Struct.{tableOf, structOf};
 ghost use Rattle.hubffi.specs.Answers.{answered, replyTo, auditAnswer, loadedAs};
 use layout::HubTable;
-use load::Loaded;
-use load::Verdict;
 use monitor::Reply;
 use monitor::Table;
 use rules::Outcome;
@@ -167,30 +165,16 @@ pub extern "C" fn hub_empty() -> HubTable
     layout::struct_of(Table::empty())
 }
 
-fn loaded_as(l: Loaded) -> HubLoaded
-    ensures { λ h. ⌜ h ≡ loadedAs l ⌝ }
-{
-    let t = l.table;
-    let verdict = l.verdict;
-    let table = layout::struct_of(t);
-    match verdict {
-        Verdict::Accepted => HubLoaded {
-            table: table,
-            number: 0,
-            line: 0,
-        },
-        Verdict::Refused(n, at) => HubLoaded {
-            table: table,
-            number: n,
-            line: at,
-        },
-    }
-}
-
 // The table of a text. The calls of the text are read for their form and not played.
 #[no_mangle]
 pub extern "C" fn hub_load(text: &[u8]) -> HubLoaded
     ensures { λ h. ⌜ h ≡ loadedAs (loadOf (now (text .entry))) ⌝ }
 {
-    loaded_as(load::load(text))
+    let l = load::load(text);
+    let v = l.verdict;
+    HubLoaded {
+        table: layout::struct_of(l.table),
+        number: load::verdict_number(v),
+        line: load::verdict_line(v),
+    }
 }

@@ -1,53 +1,60 @@
 -- Every text loads as an accepted table.
 -- Assumes nothing.
-use mathlib.Core.Path.{_≡_, refl, sym, ap, subst, _∙_}
-use mathlib.Core.Bool.{Bool, true, false, cond, not, _&&_, _||_}
+use mathlib.Core.Path.{_≡_, refl, sym, ap, ap₂, subst, _∙_}
+use mathlib.Core.Bool.{Bool, true, false, cond, not, _||_}
 use mathlib.Core.List.{List, [], _∷_, _++_}
 use mathlib.Core.Option.{Option, none, some}
-use Prim.Native.Nat.{ℕ, _+_, _-_, _≤_, _<_}
+use Prim.Native.Nat.{ℕ, _+_, _≤_, _<_}
 use native.Mathlib.Omega.{arith}
-use lib.Dec.{eqb, leb, ltb}
+use lib.Dec.{eqb, ltb}
 use lib.ListN.{length, length-append}
-use borrow.Author.Tests.{eqb-true, le-leb, ltb-true, ltb-false}
+use borrow.Author.Tests.{eqb-true, eqb-false, ltb-true}
 use Rattle.rules.specs.Table.{Slot, isFree, slotKeeps, slotFormed, keepsAll, partsFormed, accepted}
-use Rattle.rules.proofs.Facts.{and-left, and-right, both}
+use Rattle.rules.proofs.Facts.{and-right, both}
 use Rattle.rules.proofs.Bounded.{all-of}
 use Rattle.label.specs.declared.Label.{Label}
-use Rattle.label.specs.Tags.{empty}
 use Rattle.label.specs.Words.{words}
 use Rattle.entity.specs.declared.Entity.{Entity}
 use Rattle.entity.specs.Entity.{rightsOf, bare}
 use Rattle.block.specs.Block.{padded}
 use Rattle.monitor.specs.declared.Table.{Table}
-use Rattle.monitor.specs.Table.{entityAt, placeFormed, formed, groupsOf, withSlot, hub, emptyTable}
+use Rattle.monitor.specs.Table.{entityAt, formed, groupsOf, withSlot, hub, emptyTable}
 use Rattle.monitor.proofs.Form.{hub-laws}
-use Rattle.monitor.proofs.Empty.{empty-entity, empty-count, empty-form}
-use Rattle.text.specs.Bytes.{hexSetOf}
+use Rattle.monitor.proofs.Empty.{empty-entity, empty-form}
+use Rattle.values.specs.Values.{hexSetOf}
 use Rattle.text.specs.Lines.{Lines, done, cut, line, fieldsIn}
 use Rattle.rows.specs.declared.EntityColumns.{EntityColumns}
 use Rattle.rows.specs.Entities.{EntitySaid, entityColumns, entityFormed, entityOf}
-use Rattle.load.specs.declared.Filled.{Filled}
-use Rattle.load.specs.declared.GroupSets.{GroupSets}
+use Rattle.textblocks.specs.Blocks.{start, badLine, namesAt, rowsAt, groupsAt, onSome, orElse}
+use Rattle.load.specs.declared.Stored.{Stored}
 use Rattle.load.specs.declared.Verdict.{Verdict}
 use Rattle.load.specs.declared.Verdict.the-variants.{Accepted, Refused}
-use Rattle.load.specs.Blocks.{start, badLine, namesAt, rowsAt, groupsAt}
-use Rattle.load.specs.Tables.{fill, breaking, breakingIn, groupsFrom, grouped, withGroups, entitiesIn, groupsIn, tableIn}
+use Rattle.load.specs.Tables.{groupsFrom, emptyWith, noneStored, breaksAt, withEntity, fill, groupsIn, entitiesIn, tableIn}
 use Rattle.load.specs.Load.{refuseAt, verdictOf, onAccepted, loadOf}
 use Rattle.load.specs.Claims.{LoadsAccepted}
-use Rattle.load.proofs.Tables.{fill-none, fill-twice, fill-step, breaking-here, breaking-step, groups-none, groups-full, groups-step}
+use Rattle.load.proofs.Rows.{empty-none}
 use Rattle.load.proofs.EntityLines.{Sound, row-sound}
 
--- ---- tables whose entities keep to onSome groups
+-- ---- tables whose entities keep to their groups
 
-pub record Keeping (gs : List Label) (t : Table) : Type 0 where
+pub record Keeping (t : Table) : Type 0 where
   pub form : formed t ≡ true
-  pub keeps : (i : ℕ) → i < 32 → slotKeeps gs (hub .slot t i) ≡ true
+  pub keeps : (i : ℕ) → i < 32 → slotKeeps (groupsOf t) (hub .slot t i) ≡ true
 
--- the slot of an entry
+keeping-accepted : (t : Table) → Keeping t → accepted hub t ≡ true
+keeping-accepted t k = both (formed t) _ (k .form) (all-of 32 (λ i. slotKeeps (groupsOf t) (hub .slot t i)) (k .keeps))
+
+empty-keeping : (gs : List Label) → length gs ≤ 8 → Keeping (emptyWith gs)
+unfolding emptyWith
+empty-keeping gs h = record {
+  form = empty-form _ (length gs) h;
+  keeps = λ i l. ap (λ (x : Entity). isFree (x .kind) || keepsAll (groupsOf (emptyWith gs)) (bare x)) (empty-entity i l);
+}
+
+-- the slot of an entity's line, and the line stored as the rules store it
 abbrev slotIn : EntitySaid → Slot words
 slotIn y = record { kind = y .entity .kind; sec = y .entity .sec; int = y .entity .int; rights = rightsOf (y .entity); content = y .content }
 
--- an entry is stored as the rules store it
 stored : (t : Table) (y : EntitySaid) → y .entity .len ≡ length (y .content)
     → withSlot t (y .slot) (y .entity) (padded (y .content)) ≡ hub .store t (y .slot) (slotIn y)
 stored t y e = ap (λ (n : ℕ). withSlot t (y .slot) (record { kind = y .entity .kind; sec = y .entity .sec; int = y .entity .int; sa = y .entity .sa; sd = y .entity .sd; ia = y .entity .ia; id = y .entity .id; len = n }) (padded (y .content))) e
@@ -58,12 +65,11 @@ slot-formed y s =
     let e = y .entity in
     ap (λ (n : ℕ). partsFormed (bare e) n) (sym (s .len)) ∙ and-right (not (isFree (e .kind))) _ (s .formed)
 
-keep-more : (gs : List Label) (t : Table) (y : EntitySaid) → Keeping gs t → Sound y
-    → keepsAll gs (bare (y .entity)) ≡ true
-    → Keeping gs (withSlot t (y .slot) (y .entity) (padded (y .content)))
-keep-more gs t y k s h = rw (stored t y (s .len)) (record {
+keep-more : (t : Table) (y : EntitySaid) → Keeping t → Sound y → keepsAll (groupsOf t) (bare (y .entity)) ≡ true
+    → Keeping (withSlot t (y .slot) (y .entity) (padded (y .content)))
+keep-more t y k s h = rw (stored t y (s .len)) (record {
   form = hub-laws .store-formed t (y .slot) (slotIn y) (k .form) (s .slot) f;
-  keeps = λ i l. ap (slotKeeps gs) (hub-laws .store-slot t (y .slot) (slotIn y) (k .form) (s .slot) f i l) ∙ go i l (eqb i (y .slot));
+  keeps = λ i l. ap₂ (λ (gs : List Label) (x : Slot words). slotKeeps gs x) (hub-laws .store-groups t (y .slot) (slotIn y) (k .form) (s .slot) f) (hub-laws .store-slot t (y .slot) (slotIn y) (k .form) (s .slot) f i l) ∙ go i l (eqb i (y .slot));
 })
   where
     f : slotFormed {A = words} (slotIn y) ≡ true
@@ -73,78 +79,55 @@ keep-more gs t y k s h = rw (stored t y (s .len)) (record {
     or-true true = refl
     or-true false = refl
 
-    go : (i : ℕ) → i < 32 → (b : Bool) → slotKeeps gs (cond b (slotIn y) (hub .slot t i)) ≡ true
+    go : (i : ℕ) → i < 32 → (b : Bool) → slotKeeps (groupsOf t) (cond b (slotIn y) (hub .slot t i)) ≡ true
     go i l true = ap (λ (x : Bool). isFree (y .entity .kind) || x) h ∙ or-true (isFree (y .entity .kind))
     go i l false = k .keeps i l
 
--- ---- filling a table with rows that keep to the groups
+-- ---- storing rows: where none breaks a group, the table keeps to its groups
 
-module _ (cs : EntityColumns) (gs : List Label) where
-  module _ (l : List ℕ) (ls : Lines) (n m : ℕ) (t : Table) (p : 0 < m) (k : Keeping gs t) (b : breaking cs gs m (line l ls) ≡ 0)
-      (ih : (u : Table) → Keeping gs u → breaking cs gs (m + 1) ls ≡ 0 → Keeping gs (fill cs (n + 1) u ls .table)) where
-    placed : (y : EntitySaid) → entityOf cs (fieldsIn l) ≡ some y → isFree (entityAt t (y .slot) .kind) ≡ true
-        → (c : Bool) → keepsAll gs (bare (y .entity)) ≡ c → Keeping gs (fill cs n t (line l ls) .table)
-    placed y e f true h =
-        subst (λ (r : Filled). Keeping gs (r .table)) (sym (fill-step cs n t refl y e f))
-        (ih (withSlot t (y .slot) (y .entity) (padded (y .content))) (keep-more gs t y k (row-sound y cs (fieldsIn l) e) h) (sym (breaking-step cs gs m refl y e h) ∙ b))
-    placed y e f false h = let q = sym (breaking-here cs gs m refl y e h) ∙ b in absurd (omega arith)
+abbrev Kept : Stored → Type 0
+Kept s = s .breaks ≡ 0 → Keeping (s .table)
 
-    named : (y : EntitySaid) → entityOf cs (fieldsIn l) ≡ some y → (c : Bool) → isFree (entityAt t (y .slot) .kind) ≡ c → Keeping gs (fill cs n t (line l ls) .table)
-    named y e true f = placed y e f (keepsAll gs (bare (y .entity))) refl
-    named y e false f = subst (λ (r : Filled). Keeping gs (r .table)) (sym (fill-twice cs n t refl y e f)) k
+entity-kept : (n : ℕ) (s : Stored) (y : EntitySaid) → 0 < n → Sound y → Kept s → Kept (withEntity n s y)
+unfolding withEntity breaksAt orElse
+entity-kept n s y p d k e = go (keepsAll (groupsOf (s .table)) (bare (y .entity))) refl e
+  where
+    breaks : (t : Bool) → eqb (s .breaks) 0 ≡ t → cond t n (s .breaks) ≡ 0 → ⊥
+    breaks true f q = omega arith
+    breaks false f q = eqb-false (s .breaks) 0 f q
 
-    row : (o : Option EntitySaid) → entityOf cs (fieldsIn l) ≡ o → Keeping gs (fill cs n t (line l ls) .table)
-    row none e = subst (λ (r : Filled). Keeping gs (r .table)) (sym (fill-none cs n t refl e)) k
-    row (some y) e = named y e (isFree (entityAt t (y .slot) .kind)) refl
+    go : (b : Bool) → keepsAll (groupsOf (s .table)) (bare (y .entity)) ≡ b → cond b (s .breaks) (cond (eqb (s .breaks) 0) n (s .breaks)) ≡ 0
+        → Keeping (withSlot (s .table) (y .slot) (y .entity) (padded (y .content)))
+    go true h q = keep-more (s .table) y (k q) d h
+    go false h q = absurd (breaks (eqb (s .breaks) 0) refl q)
 
-  fill-keeps : (ls : Lines) (n m : ℕ) (t : Table) → 0 < m → Keeping gs t → breaking cs gs m ls ≡ 0 → Keeping gs (fill cs n t ls .table)
-  unfolding fill
-  fill-keeps done n m t p k b = k
-  fill-keeps cut n m t p k b = k
-  fill-keeps (line l ls) n m t p k b =
-      row l ls n m t p k b (λ u j d. fill-keeps ls (n + 1) (m + 1) u (omega arith) j d) (entityOf cs (fieldsIn l)) refl
+either-kept : (b : Bool) (u v : Stored) → Kept u → Kept v → Kept (cond b u v)
+either-kept true u v p q = p
+either-kept false u v p q = q
 
--- ---- groups: at most 8
+fill-keeps : (cs : EntityColumns) (ls : Lines) (n : ℕ) (s : Stored) → 0 < n → Kept s → Kept (fill cs n s ls)
+unfolding fill
+fill-keeps cs done n s p k = k
+fill-keeps cs cut n s p k = k
+fill-keeps cs (line l ls) n s p k = go (entityOf cs (fieldsIn l)) refl (λ u j. fill-keeps cs ls (n + 1) u (omega arith) j)
+  where
+    go : (o : Option EntitySaid) → entityOf cs (fieldsIn l) ≡ o → ((u : Stored) → Kept u → Kept (fill cs (n + 1) u ls))
+        → Kept (onSome o s (λ e. cond (isFree (entityAt (s .table) (e .slot) .kind)) (fill cs (n + 1) (withEntity n s e) ls) (record { twice = n; breaks = s .breaks; table = s .table })))
+    go none e ih = k
+    go (some y) e ih = either-kept (isFree (entityAt (s .table) (y .slot) .kind)) _ _ (ih (withEntity n s y) (entity-kept n s y p (row-sound y cs (fieldsIn l) e) k)) k
 
-module _ (gs : List Label) (l : List ℕ) (ls : Lines) (h : length gs ≤ 8) (ih : (g : Label) → length gs < 8 → length (groupsFrom (gs ++ (g ∷ [])) ls) ≤ 8) where
-  few-of : (g : Label) → hexSetOf l ≡ some g → (b : Bool) → ltb (length gs) 8 ≡ b → length (groupsFrom gs (line l ls)) ≤ 8
-  few-of g e true f = rw (groups-step gs {ls = ls} refl g e (ltb-true (length gs) 8 f)) (ih g (ltb-true (length gs) 8 f))
-  few-of g e false f = rw (groups-full gs {ls = ls} refl g e (ltb-false (length gs) 8 f)) h
-
-  few-row : (o : Option Label) → hexSetOf l ≡ o → length (groupsFrom gs (line l ls)) ≤ 8
-  few-row none e = rw (groups-none gs {ls = ls} refl e) h
-  few-row (some g) e = few-of g e (ltb (length gs) 8) refl
-
+-- at most 8 groups
 few : (ls : Lines) (gs : List Label) → length gs ≤ 8 → length (groupsFrom gs ls) ≤ 8
 unfolding groupsFrom
 few done gs h = h
 few cut gs h = h
-few (line l ls) gs h = few-row gs l ls h (λ g k. few ls (gs ++ (g ∷ [])) (omega (arith, length-append gs (g ∷ [])))) (hexSetOf l) refl
-
-count-few : (gs : List Label) → length gs ≤ 8 → grouped gs .count ≤ 8
-unfolding grouped
-count-few gs h = h
-
-keep-groups : (gs : List Label) (t : Table) (g : GroupSets) → g .count ≤ 8 → Keeping gs t → Keeping gs (withGroups t g)
-unfolding withGroups formed placeFormed entityAt
-keep-groups gs t g h k =
-    let a = eqb (length (t .entities)) 32 && eqb (length (t .content)) 2048 in
-    let r = and-right a _ (k .form) in
-    record {
-      form = both a _ (and-left a _ (k .form)) (both (leb (g .count) 8) _ (le-leb _ _ h) (and-right (leb (t .count) 8) _ r));
-      keeps = k .keeps;
-    }
-
--- ---- the empty table
-
-empty-keeping : (gs : List Label) → Keeping gs emptyTable
-empty-keeping gs = record {
-  form = empty-form (emptyTable .groups) (emptyTable .count) (omega (arith, empty-count));
-  keeps = λ i l. ap (λ (x : Entity). isFree (x .kind) || keepsAll gs (bare x)) (empty-entity i l);
-}
-
-keeping-accepted : (t : Table) → Keeping (groupsOf t) t → accepted hub t ≡ true
-keeping-accepted t k = both (formed t) _ (k .form) (all-of 32 (λ i. slotKeeps (groupsOf t) (hub .slot t i)) (k .keeps))
+few (line l ls) gs h = go (hexSetOf l) (ltb (length gs) 8) refl (λ g k. few ls (gs ++ (g ∷ [])) (omega (arith, length-append gs (g ∷ []))))
+  where
+    go : (o : Option Label) (b : Bool) → ltb (length gs) 8 ≡ b → ((g : Label) → length gs < 8 → length (groupsFrom (gs ++ (g ∷ [])) ls) ≤ 8)
+        → length (onSome o gs (λ g. cond b (groupsFrom (gs ++ (g ∷ [])) ls) gs)) ≤ 8
+    go none b e ih = h
+    go (some g) true e ih = ih g (ltb-true (length gs) 8 e)
+    go (some g) false e ih = h
 
 -- ---- loading
 
@@ -157,35 +140,31 @@ passed n l v e = go (eqb l 0) refl e
     go false q f = let z : _≡_ {A = ℕ} 0 1 = cc in absurd (omega arith)
 
 module _ (text : List ℕ) where
-  breaks-none : verdictOf text ≡ Accepted → breakingIn text (tableIn text) ≡ 0
+  -- no line of an accepted text is bad, and none breaks a group
+  lines-good : verdictOf text ≡ Accepted → (badLine text ≡ 0) × (entitiesIn text .breaks ≡ 0)
   unfolding verdictOf
-  breaks-none e = go (ltb 65535 (length text)) e
+  lines-good e = go (ltb 65535 (length text)) e
     where
-      go : (b : Bool) → cond b (Refused 14 0) (refuseAt 15 (badLine text) (refuseAt 16 (entitiesIn text .twice) (refuseAt 17 (breakingIn text (tableIn text)) Accepted))) ≡ Accepted → breakingIn text (tableIn text) ≡ 0
+      go : (b : Bool) → cond b (Refused 14 0) (refuseAt 15 (badLine text) (refuseAt 16 (entitiesIn text .twice) (refuseAt 17 (entitiesIn text .breaks) Accepted))) ≡ Accepted
+          → (badLine text ≡ 0) × (entitiesIn text .breaks ≡ 0)
       go true q = let z : _≡_ {A = ℕ} 0 1 = cc in absurd (omega arith)
-      go false q = passed 17 _ Accepted (passed 16 (entitiesIn text .twice) _ (passed 15 (badLine text) _ q .1) .1) .0
+      go false q =
+          let r = passed 15 (badLine text) _ q in
+          (r .0, passed 17 _ Accepted (passed 16 (entitiesIn text .twice) _ (r .1) .1) .0)
 
-  -- no line of an accepted text is bad
   pub bad-none : verdictOf text ≡ Accepted → badLine text ≡ 0
-  unfolding verdictOf
-  bad-none e = go (ltb 65535 (length text)) e
-    where
-      go : (b : Bool) → cond b (Refused 14 0) (refuseAt 15 (badLine text) (refuseAt 16 (entitiesIn text .twice) (refuseAt 17 (breakingIn text (tableIn text)) Accepted))) ≡ Accepted → badLine text ≡ 0
-      go true q = let z : _≡_ {A = ℕ} 0 1 = cc in absurd (omega arith)
-      go false q = passed 15 (badLine text) _ q .0
+  bad-none e = lines-good e .0
 
-  table-accepted : breakingIn text (tableIn text) ≡ 0 → accepted hub (tableIn text) ≡ true
-  unfolding tableIn entitiesIn groupsIn breakingIn
-  table-accepted b =
-      let gs = groupsOf (tableIn text) in
-      keeping-accepted (tableIn text)
-      (keep-groups gs (entitiesIn text .table) (groupsIn text) (count-few _ (few (rowsAt text (groupsAt text)) [] (omega arith)))
-      (fill-keeps (entityColumns (namesAt text start)) gs (rowsAt text start) 2 2 emptyTable (omega arith) (empty-keeping gs) b))
+  table-keeping : entitiesIn text .breaks ≡ 0 → Keeping (tableIn text)
+  unfolding tableIn entitiesIn groupsIn
+  table-keeping b =
+      fill-keeps (entityColumns (namesAt text start)) (rowsAt text start) 2 (noneStored (emptyWith (groupsIn text))) (omega arith)
+      (λ e. empty-keeping (groupsIn text) (few (rowsAt text (groupsAt text)) [] (omega arith))) b
 
 pub loads-accepted : LoadsAccepted
 unfolding loadOf
 loads-accepted text = go (verdictOf text) refl
   where
     go : (v : Verdict) → verdictOf text ≡ v → accepted hub (onAccepted v (tableIn text) emptyTable) ≡ true
-    go Accepted e = table-accepted text (breaks-none text e)
-    go (Refused n l) e = keeping-accepted emptyTable (empty-keeping (groupsOf emptyTable))
+    go Accepted e = keeping-accepted (tableIn text) (table-keeping text (lines-good text e .1))
+    go (Refused n l) e = keeping-accepted emptyTable (subst Keeping empty-none (empty-keeping [] (omega arith)))

@@ -1,5 +1,3 @@
-pub mod Laws
-pub mod Tables
-pub mod Verdicts
+pub mod Rows
 pub mod EntityLines
 pub mod Accepted

@@ -5,12 +5,13 @@ use mathlib.Core.Bool.{cond}
 use mathlib.Core.List.{List}
 use lib.ListN.{length}
 use lib.Dec.{eqb, ltb}
+use Rattle.monitor.specs.declared.Table.{Table}
 use Rattle.monitor.specs.Table.{emptyTable}
+use Rattle.textblocks.specs.Blocks.{badLine}
 use Rattle.load.specs.declared.Verdict.{Verdict}
 use Rattle.load.specs.declared.Verdict.the-variants.{Accepted, Refused}
 use Rattle.load.specs.declared.Loaded.{Loaded}
-use Rattle.load.specs.Blocks.{badLine}
-use Rattle.load.specs.Tables.{entitiesIn, tableIn, breakingIn}
+use Rattle.load.specs.Tables.{entitiesIn, tableIn}
 
 -- the number and the line that a verdict returns
 abbrev pub verdictNumber : Verdict → ℕ
@@ -30,15 +31,16 @@ verdictOf text =
     cond (ltb 65535 (length text)) (Refused 14 0)
     (refuseAt 15 (badLine text)
     (refuseAt 16 (entitiesIn text .twice)
-    (refuseAt 17 (breakingIn text (tableIn text))
+    (refuseAt 17 (entitiesIn text .breaks)
     Accepted)))
 
 abbrev pub onAccepted : {A : Type 0} → Verdict → A → A → A
 onAccepted Accepted a b = a
 onAccepted (Refused n l) a b = b
 
-unfoldable pub refusedBy : ℕ → ℕ → Loaded
-refusedBy n l = record { verdict = Refused n l; table = emptyTable }
+-- a verdict with its table: refused, the empty table without groups
+abbrev pub loadedWith : Verdict → Table → Loaded
+loadedWith v t = record { verdict = v; table = onAccepted v t emptyTable }
 
 unfoldable pub loadOf : List ℕ → Loaded
-loadOf text = record { verdict = verdictOf text; table = onAccepted (verdictOf text) (tableIn text) emptyTable }
+loadOf text = loadedWith (verdictOf text) (tableIn text)

@@ -1,48 +1,22 @@
-// Loading a table from its text, and the calls of the text one by one.
+// Loading a table from its text: 14 to 17.
 ghost use mathlib.Core.Path.{_≡_};
 ghost use mathlib.Core.List.{[]};
-ghost use Prim.Native.Nat.{_+_, _<_, _≤_};
+ghost use Prim.Native.Nat.{_≤_};
 ghost use lib.ListN.{length, drop};
-ghost use Rattle.text.specs.Bytes.{hexSetOf};
-ghost use Rattle.text.specs.Lines.{linesOf, fieldsIn};
-ghost use Rattle.rows.specs.Entities.{entityOf};
-ghost use Rattle.callrows.specs.Calls.{callOf};
-ghost use Rattle.monitor.specs.Table.{groupsOf, emptyTable};
-ghost use Rattle.load.specs.Blocks.{start, pastEmpty, groupsAt, callsAt, isSome, rowGood, isLast, rowsBad, blockBad, entitiesBad, groupsBad, callsBad, badLine};
-ghost use Rattle.load.specs.Tables.{fill, breaking, breakingIn, groupsFrom, grouped, noGroups, withGroups, entitiesIn, groupsIn};
-ghost use Rattle.load.specs.Load.{verdictNumber, verdictLine, refusedBy, loadOf};
-ghost use Rattle.load.specs.CallsIn.{callColumnsIn};
-use callrows::CallColumns;
-use callrows::CallRead;
-use label::Label;
+ghost use Rattle.text.specs.Lines.{linesOf};
+ghost use Rattle.load.specs.Tables.{rowIn, groupsFrom, emptyWith, noneStored, breaksAt, fill, groupsIn, entitiesIn};
+ghost use Rattle.load.specs.Load.{verdictNumber, verdictLine, refuseAt, loadedWith, loadOf};
 use monitor::Table;
 use rows::EntityColumns;
 use rows::Placed;
-use text::Tags;
+use values::Tags;
 
-// A place in a text, and the number of the line there.
-pub struct Place {
-    pub at: usize,
-    pub line: usize,
-}
-
-// A block of a text: the columns that its rows have. Groups have one.
-pub enum Block {
-    Entities(EntityColumns),
-    Groups,
-    Calls(CallColumns),
-}
-
-// The entities of a text, in a table; and the first line whose slot an earlier one names, or 0.
-pub struct Filled {
+// The table that the entities of a text are stored in; the first line whose slot an earlier one names, or 0; the first line
+// before it whose entity breaks a group, or 0.
+pub struct Stored {
     pub twice: usize,
+    pub breaks: usize,
     pub table: Table,
-}
-
-// The groups of a text.
-pub struct GroupSets {
-    pub sets: [Label; 8],
-    pub count: usize,
 }
 
 // What loading comes to: accepted, or refused with a number and a line.
@@ -56,356 +30,125 @@ pub struct Loaded {
     pub table: Table,
 }
 
-// The place past the next empty line.
-fn past_empty(text: &[u8], from: Place) -> Place
-    requires { ⌜ (from .at ≤ length (now text)) × (from .line ≤ from .at + 1) ⌝ }
-    ensures { λ r. ⌜ (r ≡ pastEmpty (now (text .entry)) from) × (r .at ≤ length (now (text .entry))) × (r .line ≤ r .at + 1) ⌝ }
+// The row at a place: a whole line, or nothing.
+fn row_at<'a>(text: &'a [u8], at: usize) -> &'a [u8]
+    ensures { λ r. ⌜ now r ≡ rowIn (linesOf (drop at (now (text .entry)))) ⌝ }
 {
-    let mut at = from.at;
-    let mut line = from.line;
-    loop {
-        let end = text::line_end(text, at);
-        if text.len() <= end {
-            return Place { at: at, line: line };
-        }
-        if end <= at {
-            return Place {
-                at: end + 1,
-                line: line + 1,
-            };
-        }
-        at = end + 1;
-        line += 1;
+    if text.len() <= text::line_end(text, at) {
+        return &text[..0];
     }
+    text::line_at(text, at)
 }
 
-fn is_entity(columns: EntityColumns, row: &[u8]) -> bool
-    ensures { λ r. ⌜ r ≡ isSome (entityOf columns (fieldsIn (now (row .entry)))) ⌝ }
-{
-    let r = rows::entity_row(columns, row);
-    let placed = r.placed;
-    match placed {
-        Placed::At(k, e) => true,
-        Placed::Bad => false,
-    }
-}
-
-fn is_set(row: &[u8]) -> bool
-    ensures { λ r. ⌜ r ≡ isSome (hexSetOf (now (row .entry))) ⌝ }
-{
-    let set = text::hex_set(row);
-    match set {
-        Tags::Set(l) => true,
-        Tags::Bad => false,
-    }
-}
-
-fn is_call(columns: CallColumns, row: &[u8]) -> bool
-    ensures { λ r. ⌜ r ≡ isSome (callOf columns (fieldsIn (now (row .entry)))) ⌝ }
-{
-    let r = callrows::call_row(columns, row);
-    let read = r.read;
-    match read {
-        CallRead::Call(c) => true,
-        CallRead::Bad => false,
-    }
-}
-
-// Whether a row of a block has the form, where i rows of it stand before.
-fn row_good(block: Block, i: usize, row: &[u8]) -> bool
-    ensures { λ r. ⌜ r ≡ rowGood block i (now (row .entry)) ⌝ }
-{
-    match block {
-        Block::Entities(columns) => is_entity(columns, row),
-        Block::Groups => (i < 8) & is_set(row),
-        Block::Calls(columns) => is_call(columns, row),
-    }
-}
-
-fn is_last(block: Block) -> bool
-    ensures { λ r. ⌜ r ≡ isLast block ⌝ }
-{
-    match block {
-        Block::Entities(columns) => false,
-        Block::Groups => false,
-        Block::Calls(columns) => true,
-    }
-}
-
-// The first bad line of the rows of a block, or 0.
-fn rows_bad(text: &[u8], block: Block, from: usize, first: usize) -> usize
-    requires { ⌜ (from ≤ length (now text)) × (first ≤ from + 1) ⌝ }
-    ensures { λ r. ⌜ r ≡ rowsBad block first 0 (linesOf (drop from (now (text .entry)))) ⌝ }
-{
-    let last = is_last(block);
-    let mut at = from;
-    let mut line = first;
-    let mut i: usize = 0;
-    loop {
-        let end = text::line_end(text, at);
-        if text.len() <= end {
-            if last & (text.len() <= at) {
-                return 0;
-            }
-            return line;
-        }
-        if !last & (end <= at) {
-            return 0;
-        }
-        if !row_good(block, i, &text[at..end]) {
-            return line;
-        }
-        at = end + 1;
-        line += 1;
-        i += 1;
-    }
-}
-
-// The first bad line of a block at a place, or 0: its names, which stand there or do not, and then its rows.
-fn block_bad(text: &[u8], block: Block, named: bool, p: Place) -> usize
-    requires { ⌜ (p .at ≤ length (now text)) × (p .line ≤ p .at + 1) ⌝ }
-    ensures { λ r. ⌜ r ≡ blockBad block named (now (text .entry)) p ⌝ }
-{
-    let at = p.at;
-    let end = text::line_end(text, at);
-    if text.len() <= end {
-        return p.line;
-    }
-    if !named {
-        return p.line;
-    }
-    rows_bad(text, block, end + 1, p.line + 1)
-}
-
-fn entities_at() -> Place
-    ensures { λ r. ⌜ r ≡ start ⌝ }
-{
-    Place { at: 0, line: 1 }
-}
-
-fn groups_at(text: &[u8]) -> Place
-    ensures { λ r. ⌜ (r ≡ groupsAt (now (text .entry))) × (r .at ≤ length (now (text .entry))) × (r .line ≤ r .at + 1) ⌝ }
-{
-    past_empty(text, entities_at())
-}
-
-fn calls_place(text: &[u8]) -> Place
-    ensures { λ r. ⌜ (r ≡ callsAt (now (text .entry))) × (r .at ≤ length (now (text .entry))) × (r .line ≤ r .at + 1) ⌝ }
-{
-    past_empty(text, groups_at(text))
-}
-
-fn entities_bad(text: &[u8], p: Place) -> usize
-    requires { ⌜ (p .at ≤ length (now text)) × (p .line ≤ p .at + 1) ⌝ }
-    ensures { λ r. ⌜ r ≡ entitiesBad (now (text .entry)) p ⌝ }
-{
-    let at = p.at;
-    let names = text::line_at(text, at);
-    block_bad(
-        text,
-        Block::Entities(rows::entity_columns(names)),
-        rows::is_entity_header(names),
-        p,
-    )
-}
-
-fn groups_bad(text: &[u8], p: Place) -> usize
-    requires { ⌜ (p .at ≤ length (now text)) × (p .line ≤ p .at + 1) ⌝ }
-    ensures { λ r. ⌜ r ≡ groupsBad (now (text .entry)) p ⌝ }
-{
-    let at = p.at;
-    block_bad(
-        text,
-        Block::Groups,
-        rows::is_group_header(text::line_at(text, at)),
-        p,
-    )
-}
-
-fn calls_bad(text: &[u8], p: Place) -> usize
-    requires { ⌜ (p .at ≤ length (now text)) × (p .line ≤ p .at + 1) ⌝ }
-    ensures { λ r. ⌜ r ≡ callsBad (now (text .entry)) p ⌝ }
-{
-    let at = p.at;
-    let names = text::line_at(text, at);
-    block_bad(
-        text,
-        Block::Calls(callrows::call_columns(names)),
-        callrows::is_call_header(names),
-        p,
-    )
-}
-
-// The first bad line of a text, or 0.
-fn bad_line(text: &[u8]) -> usize
-    ensures { λ r. ⌜ r ≡ badLine (now (text .entry)) ⌝ }
-{
-    let entities = entities_bad(text, entities_at());
-    if entities != 0 {
-        return entities;
-    }
-    let groups = groups_bad(text, groups_at(text));
-    if groups != 0 {
-        return groups;
-    }
-    calls_bad(text, calls_place(text))
-}
-
-// The entities of the rows at a place, put into a table one after the other.
-fn fill_rows(text: &[u8], columns: EntityColumns, from: usize) -> Filled
-    requires { ⌜ (from ≤ length (now text)) × (length (now text) ≤ 65535) ⌝ }
-    ensures { λ r. ⌜ r ≡ fill columns 2 emptyTable (linesOf (drop from (now (text .entry)))) ⌝ }
+// The empty table with the groups of the rows at a place.
+fn group_rows(text: &[u8], from: usize) -> Table
+    ensures { λ r. ⌜ r ≡ emptyWith (groupsFrom [] (linesOf (drop from (now (text .entry))))) ⌝ }
 {
     let mut table = Table::empty();
     let mut at = from;
+    loop {
+        let set = values::hex_set(row_at(text, at));
+        let Tags::Set(l) = set else {
+            return table;
+        };
+        let count = table.count;
+        if 8 <= count {
+            return table;
+        }
+        table.groups[count] = l;
+        table.count = count + 1;
+        at = text::next_line(text, at);
+    }
+}
+
+// The empty table with the groups of a text.
+fn groups_in(text: &[u8]) -> Table
+    ensures { λ r. ⌜ r ≡ emptyWith (groupsIn (now (text .entry))) ⌝ }
+{
+    group_rows(text, text::next_line(text, textblocks::groups_at(text)))
+}
+
+// The first line whose entity breaks a group: the one so far, if there is one, or this one.
+fn breaks_at(first: usize, keeps: bool, line: usize) -> usize
+    ensures { λ r. ⌜ r ≡ breaksAt first keeps line ⌝ }
+{
+    if keeps {
+        return first;
+    }
+    if first == 0 { line } else { first }
+}
+
+// The entities of the rows at a place, stored in a table one after the other.
+fn entity_rows(text: &[u8], columns: EntityColumns, from: usize, empty: Table) -> Stored
+    requires { ⌜ length (now text) ≤ 65535 ⌝ }
+    ensures { λ r. ⌜ r ≡ fill columns 2 (noneStored empty) (linesOf (drop from (now (text .entry)))) ⌝ }
+{
+    let mut table = empty;
+    let mut breaks: usize = 0;
+    let mut at = from;
     let mut line: usize = 2;
     loop {
-        let end = text::line_end(text, at);
-        if text.len() <= end {
-            return Filled {
-                twice: 0,
-                table: table,
-            };
-        }
-        let row = rows::entity_row(columns, text::line_at(text, at));
+        let row = rows::entity_row(columns, row_at(text, at));
         let placed = row.placed;
         let Placed::At(slot, e) = placed else {
-            return Filled {
+            return Stored {
                 twice: 0,
+                breaks: breaks,
                 table: table,
             };
         };
         let was = table.entity(slot);
         if !was.is_free() {
-            return Filled {
+            return Stored {
                 twice: line,
+                breaks: breaks,
                 table: table,
             };
         }
+        breaks = breaks_at(breaks, table.keeps_all(e), line);
         let block = row.block;
         table = table.with_slot(slot, e, block);
-        at = end + 1;
+        at = text::next_line(text, at);
         line += 1;
     }
 }
 
-// The entities of a text.
-fn entities_in(text: &[u8]) -> Filled
+// The entities of a text, in a table with its groups.
+fn entities_in(text: &[u8]) -> Stored
     requires { ⌜ length (now text) ≤ 65535 ⌝ }
     ensures { λ r. ⌜ r ≡ entitiesIn (now (text .entry)) ⌝ }
 {
-    let from = text::next_line(text, 0);
-    fill_rows(text, rows::entity_columns(text::line_at(text, 0)), from)
+    let columns = rows::entity_columns(text::line_at(text, 0));
+    entity_rows(text, columns, text::next_line(text, 0), groups_in(text))
 }
 
-fn no_groups() -> [Label; 8]
-    ensures { λ r. ⌜ r ≡ noGroups ⌝ }
+// Refused by a number where there is such a line, and otherwise as the checks after it say.
+fn refuse_at(number: u8, line: usize, next: Verdict) -> Verdict
+    ensures { λ r. ⌜ r ≡ refuseAt number line next ⌝ }
 {
-    let none = label::empty();
-    [none; 8]
-}
-
-// The groups of the rows at a place.
-fn group_sets(text: &[u8], from: usize) -> GroupSets
-    requires { ⌜ from ≤ length (now text) ⌝ }
-    ensures { λ r. ⌜ r ≡ grouped (groupsFrom [] (linesOf (drop from (now (text .entry))))) ⌝ }
-{
-    let mut sets = no_groups();
-    let mut count: usize = 0;
-    let mut at = from;
-    loop {
-        let end = text::line_end(text, at);
-        if text.len() <= end {
-            return GroupSets {
-                sets: sets,
-                count: count,
-            };
-        }
-        let set = text::hex_set(text::line_at(text, at));
-        let Tags::Set(l) = set else {
-            return GroupSets {
-                sets: sets,
-                count: count,
-            };
-        };
-        if 8 <= count {
-            return GroupSets {
-                sets: sets,
-                count: count,
-            };
-        }
-        sets[count] = l;
-        count += 1;
-        at = end + 1;
+    if line == 0 {
+        next
+    } else {
+        Verdict::Refused(number, line)
     }
 }
 
-// The groups of a text.
-fn groups_in(text: &[u8]) -> GroupSets
-    ensures { λ r. ⌜ r ≡ groupsIn (now (text .entry)) ⌝ }
+// A verdict with its table, the empty one where the text is refused.
+fn loaded_with(verdict: Verdict, table: Table) -> Loaded
+    ensures { λ r. ⌜ r ≡ loadedWith verdict table ⌝ }
 {
-    let p = groups_at(text);
-    let at = p.at;
-    let from = text::next_line(text, at);
-    group_sets(text, from)
-}
-
-fn with_groups(table: Table, g: GroupSets) -> Table
-    ensures { λ r. ⌜ r ≡ withGroups table g ⌝ }
-{
-    let mut t = table;
-    let sets = g.sets;
-    t.groups = sets;
-    t.count = g.count;
-    t
-}
-
-// The first row at a place whose entity breaks a group of a table, or 0.
-fn breaking_row(text: &[u8], columns: EntityColumns, from: usize, table: Table) -> usize
-    requires { ⌜ (from ≤ length (now text)) × (length (now text) ≤ 65535) ⌝ }
-    ensures { λ r. ⌜ r ≡ breaking columns (groupsOf table) 2 (linesOf (drop from (now (text .entry)))) ⌝ }
-{
-    let mut at = from;
-    let mut line: usize = 2;
-    loop {
-        let end = text::line_end(text, at);
-        if text.len() <= end {
-            return 0;
+    match verdict {
+        Verdict::Accepted => Loaded {
+            verdict: Verdict::Accepted,
+            table: table,
+        },
+        Verdict::Refused(n, l) => {
+            let none = Table::empty();
+            Loaded {
+                verdict: Verdict::Refused(n, l),
+                table: none,
+            }
         }
-        let row = rows::entity_row(columns, text::line_at(text, at));
-        let placed = row.placed;
-        let Placed::At(slot, e) = placed else {
-            return 0;
-        };
-        if !table.keeps_all(e) {
-            return line;
-        }
-        at = end + 1;
-        line += 1;
-    }
-}
-
-// The first line of a text whose entity breaks a group of a table, or 0.
-fn breaking_line(text: &[u8], table: Table) -> usize
-    requires { ⌜ length (now text) ≤ 65535 ⌝ }
-    ensures { λ r. ⌜ r ≡ breakingIn (now (text .entry)) table ⌝ }
-{
-    let from = text::next_line(text, 0);
-    breaking_row(
-        text,
-        rows::entity_columns(text::line_at(text, 0)),
-        from,
-        table,
-    )
-}
-
-fn refused(number: u8, line: usize) -> Loaded
-    ensures { λ r. ⌜ r ≡ refusedBy number line ⌝ }
-{
-    let table = Table::empty();
-    Loaded {
-        verdict: Verdict::Refused(number, line),
-        table: table,
     }
 }
 
@@ -414,42 +157,14 @@ pub fn load(text: &[u8]) -> Loaded
     ensures { λ r. ⌜ r ≡ loadOf (now (text .entry)) ⌝ }
 {
     if 65535 < text.len() {
-        return refused(14, 0);
-    }
-    let bad = bad_line(text);
-    if bad != 0 {
-        return refused(15, bad);
+        return loaded_with(Verdict::Refused(14, 0), Table::empty());
     }
     let entities = entities_in(text);
-    let twice = entities.twice;
-    if twice != 0 {
-        return refused(16, twice);
-    }
-    let held = entities.table;
-    let table = with_groups(held, groups_in(text));
-    let breaks = breaking_line(text, table);
-    if breaks != 0 {
-        return refused(17, breaks);
-    }
-    Loaded {
-        verdict: Verdict::Accepted,
-        table: table,
-    }
-}
-
-// The place of the line of names of the calls.
-pub fn calls_at(text: &[u8]) -> usize
-    ensures { λ r. ⌜ r ≡ callsAt (now (text .entry)) .at ⌝ }
-{
-    let p = calls_place(text);
-    p.at
-}
-
-// The columns of the calls of a text.
-pub fn call_columns(text: &[u8]) -> CallColumns
-    ensures { λ r. ⌜ r ≡ callColumnsIn (now (text .entry)) ⌝ }
-{
-    callrows::call_columns(text::line_at(text, calls_at(text)))
+    let mut verdict = refuse_at(17, entities.breaks, Verdict::Accepted);
+    verdict = refuse_at(16, entities.twice, verdict);
+    verdict = refuse_at(15, textblocks::bad_line(text), verdict);
+    let table = entities.table;
+    loaded_with(verdict, table)
 }
 
 // The number that a verdict returns; 0 where the text is accepted.

@@ -1,19 +1,21 @@
--- Bytes written one after another make a line; digits.
+-- Bytes put one behind another make a line; digits.
 -- Assumes nothing.
 use mathlib.Core.Path.{_≡_, refl, sym, ap, ap₂, _∙_}
 use mathlib.Core.List.{List, [], _∷_, _++_, append-nil, append-assoc}
-use mathlib.Core.Logic.{_⊎_, inl, inr}
 use Prim.Native.Nat.{ℕ, zero, suc, _+_, _*_, _-_, _/_, _%_, _^_, _≤_, _<_}
 use native.Mathlib.Numerals.{add-one}
 use native.Mathlib.Nat.{pow-suc}
 use native.Mathlib.Omega.{arith}
-use mathlib.Core.Bool.{true}
-use lib.Dec.{leb}
-use lib.ListN.{length, getD, take, drop, set, drop-of-length-le, length-append, length-set, length-drop, length-replicate}
-use lib.Seq.{sets, sets-eq, drop-cons, drop-drop, getD-set-same, drop-set-lt, take-all, take-append-seam}
-use borrow.Author.Tests.{lt-ltb, le-ltb, le-leb}
+use mathlib.Core.Bool.{Bool, true, false, cond}
+use lib.Dec.{ltb}
+use lib.ListN.{length, getD, take, drop, set, drop-of-length-le, length-append, length-drop, length-replicate}
+use lib.Seq.{sets, sets-eq, take-at, drop-append-add, drop-cons, drop-drop, take-all, take-append-seam}
+use borrow.Author.Tests.{ltb-true, ltb-false, lt-ltb, le-ltb}
+use Rattle.rules.specs.Record.{filled}
+use Rattle.rules.proofs.Facts.{either}
+use Rattle.rules.proofs.Refused.{filled-length}
 use Rattle.print.specs.declared.Line.{Line}
-use Rattle.print.specs.Lines.{digitText, hexText, dataText, callLine, decimalOnto, blank, asLine, written, writtenTo}
+use Rattle.print.specs.Lines.{digitText, hexText, dataText, callLine, digitsText, decimalText, blank, asLine, lineWith}
 
 -- ---- hexadecimal
 
@@ -39,6 +41,12 @@ sets-append out k (x ∷ xs) b =
     let e : k + suc (length xs) ≡ suc k + length xs = omega arith in
     sets-append (set out k x) (suc k) xs b ∙ rw e
 
+-- bytes behind bytes that were put behind a line
+pub with-both : (x : Line) (a b : List ℕ) → lineWith (lineWith x a) b ≡ lineWith x (a ++ b)
+with-both x a b =
+    let n : x .len + length a + length b ≡ x .len + length (a ++ b) = omega (arith, length-append a b) in
+    λ i. record { bytes = sym (sets-append (x .bytes) (x .len) a b) i; len = n i }
+
 pub data-empty : (s : List ℕ) → length s ≡ 0 → dataText s ≡ 45 ∷ []
 unfolding dataText
 data-empty [] h = refl
@@ -61,87 +69,90 @@ line-most entry shown e h =
 
 -- ---- decimal numbers
 
-pub decimal-last : (k n : ℕ) (ds : List ℕ) → 0 < k → n < 10 → decimalOnto k n ds ≡ (48 + n) ∷ ds
-unfolding decimalOnto
-decimal-last zero n ds p h = absurd (omega arith)
-decimal-last (suc k) n ds p h = rw (lt-ltb n 10 h)
+digits-one : (k n : ℕ) → n < 10 → digitsText (suc k) n ≡ (48 + n) ∷ []
+unfolding digitsText
+digits-one k n h = rw (lt-ltb n 10 h)
 
-decimal-next : (k n : ℕ) (ds : List ℕ) → 10 ≤ n → decimalOnto (suc k) n ds ≡ decimalOnto k (n / 10) ((48 + n % 10) ∷ ds)
-unfolding decimalOnto
-decimal-next k n ds h = rw (le-ltb n 10 h)
+digits-more : (k n : ℕ) → 10 ≤ n → digitsText (suc k) n ≡ digitsText k (n / 10) ++ ((48 + n % 10) ∷ [])
+unfolding digitsText
+digits-more k n h = rw (le-ltb n 10 h)
 
-pub decimal-more : (k n : ℕ) (ds : List ℕ) → 0 < k → 10 ≤ n → decimalOnto k n ds ≡ decimalOnto (k - 1) (n / 10) ((48 + n % 10) ∷ ds)
-decimal-more k n ds p h = let e : suc (k - 1) ≡ k = omega arith in rw e at (decimal-next (k - 1) n ds h)
+-- turns enough are as good as more
+digits-enough : (k j n : ℕ) → n < k → n < j → digitsText k n ≡ digitsText j n
+digits-enough zero j n p q = absurd (omega arith)
+digits-enough (suc k) zero n p q = absurd (omega arith)
+digits-enough (suc k) (suc j) n p q =
+    either (ltb n 10) (λ e. let l = ltb-true n 10 e in digits-one k n l ∙ sym (digits-one j n l))
+    (λ e. let l = ltb-false n 10 e in
+    digits-more k n l ∙ ap (λ (x : List ℕ). x ++ ((48 + n % 10) ∷ [])) (digits-enough k j (n / 10) (omega arith) (omega arith)) ∙ sym (digits-more j n l))
 
--- a number with k digits at most, and one digit less
-pub digits-two : (k n : ℕ) → n < 10 ^ k → 10 ≤ n → 1 < k
-digits-two zero n h p = absurd (omega arith)
-digits-two (suc zero) n h p = absurd (omega arith)
-digits-two (suc (suc k)) n h p = omega arith
+pub decimal-one : (n : ℕ) → n < 10 → decimalText n ≡ (48 + n) ∷ []
+unfolding decimalText
+decimal-one n h = digits-one n n h
 
-pub digits-one : (k n : ℕ) → n < 10 ^ k → 0 < k ⊎ (n ≡ 0)
-digits-one zero n h = inr (omega arith)
-digits-one (suc k) n h = inl (omega arith)
+pub decimal-more : (n : ℕ) → 10 ≤ n → decimalText n ≡ decimalText (n / 10) ++ ((48 + n % 10) ∷ [])
+unfolding decimalText
+decimal-more n h = digits-more n n h ∙ ap (λ (x : List ℕ). x ++ ((48 + n % 10) ∷ [])) (digits-enough n (suc (n / 10)) (n / 10) (omega arith) (omega arith))
 
-pub digits-less : (k n : ℕ) → 0 < k → n < 10 ^ k → n / 10 < 10 ^ (k - 1)
-digits-less zero n p h = absurd (omega arith)
-digits-less (suc k) n p h =
-    let e : suc k - 1 ≡ k = omega arith in
-    let q : n < 10 ^ k * 10 = rw (pow-suc 10 k) at h in
-    rw e (omega arith)
+digits-most : (k m n : ℕ) → n < 10 ^ suc m → length (digitsText k n) ≤ suc m
+unfolding digitsText
+digits-most zero m n h = omega arith
+digits-most (suc k) zero n h = rw (lt-ltb n 10 (omega arith)) (omega arith)
+digits-most (suc k) (suc m) n h =
+    let q : n < 10 ^ suc m * 10 = rw (pow-suc 10 (suc m)) at h in
+    go (digits-most k m (n / 10) (omega arith)) (ltb n 10)
+  where
+    go : length (digitsText k (n / 10)) ≤ suc m → (v : Bool) → length (cond v ((48 + n) ∷ []) (digitsText k (n / 10) ++ ((48 + n % 10) ∷ []))) ≤ suc (suc m)
+    go l true = omega arith
+    go l false = omega (arith, length-append (digitsText k (n / 10)) ((48 + n % 10) ∷ []))
 
-pub drop-here : (l : List ℕ) (i d : ℕ) → i < length l → drop i (set l i d) ≡ d ∷ drop (i + 1) l
-drop-here l i d h =
-    drop-cons (set l i d) i 0 (rw length-set h) ∙ ap₂ (λ (x : ℕ) (xs : List ℕ). x ∷ xs) (getD-set-same l i d 0 h) (drop-set-lt (suc i) l i d (omega arith) ∙ ap (λ (n : ℕ). drop n l) (sym (add-one i)))
-
-pub digits-part : (bytes : List ℕ) (from : ℕ) → length bytes ≡ 20 → take (20 - from) (drop from bytes) ≡ drop from bytes
-digits-part bytes from h = take-all (20 - from) (drop from bytes) (omega (arith, length-drop from bytes))
+pub decimal-most : (n : ℕ) → n < 2 ^ 64 → length (decimalText n) ≤ 20
+unfolding decimalText
+decimal-most n h = digits-most (suc n) 19 n (omega arith)
 
 -- ---- a copy into a part of a buffer
 
-pub copied : (s d : List ℕ) (at : ℕ) → at + length s ≤ length d → (ys : List ℕ) → ys ≡ take (length s) s ++ drop (length s) (take (length d - at) (drop at d))
-    → take at d ++ (ys ++ drop (length d - at) (drop at d)) ≡ sets d at s
-copied s d at h ys q =
-    let t : take (length d - at) (drop at d) ≡ drop at d = take-all (length d - at) (drop at d) (simp length-drop (omega arith)) in
-    let z : drop (length d - at) (drop at d) ≡ [] = drop-of-length-le (drop at d) {i = length d - at} (simp length-drop (omega arith)) in
+-- into the part of d behind its first `at`, whose length is m
+pub copied : (s d : List ℕ) (at m : ℕ) → length d ≡ m → at + length s ≤ m → (ys : List ℕ) → ys ≡ take (length s) s ++ drop (length s) (take (m - at) (drop at d))
+    → take at d ++ (ys ++ drop (m - at) (drop at d)) ≡ sets d at s
+copied s d at m e h ys q =
+    let t : take (m - at) (drop at d) ≡ drop at d = take-all (m - at) (drop at d) (simp length-drop (omega arith)) in
+    let z : drop (m - at) (drop at d) ≡ [] = drop-of-length-le (drop at d) {i = m - at} (simp length-drop (omega arith)) in
     ap (λ (x : List ℕ). take at d ++ x)
     (ap (λ (x : List ℕ). ys ++ x) z ∙ append-nil ys ∙ q ∙ ap₂ (λ (x y : List ℕ). x ++ drop (length s) y) (take-all (length s) s (omega arith)) t ∙ ap (λ (x : List ℕ). s ++ x) (drop-drop (length s) at d))
     ∙ sym (append-assoc (take at d) s (drop (at + length s) d))
-    ∙ sym (sets-eq s d at h)
+    ∙ sym (sets-eq s d at (omega arith))
 
--- ---- a line written piece by piece
+-- ---- a line with bytes behind it
 
-pub length-blank : length blank ≡ 162
-unfolding blank
-length-blank = length-replicate {A = ℕ} 162 0
+-- bytes behind a front that fills a buffer
+pub sets-front : (d x out : List ℕ) → length d + length x ≤ length out → sets (filled d out) (length d) x ≡ filled (d ++ x) out
+sets-front d x out h =
+    let k : length (d ++ x) ≡ length d + length x = length-append d x in
+    sets-eq x (filled d out) (length d) (omega (arith, filled-length d out (omega arith)))
+    ∙ ap₂ (λ (p q : List ℕ). p ++ x ++ q) (take-at d (drop (length d) out) (length d) refl)
+    (drop-append-add d (drop (length d) out) (length x) ∙ drop-drop (length x) (length d) out ∙ ap (λ (n : ℕ). drop n out) (sym k))
 
--- what is left to write, from index k on, makes the whole line
-pub record Left (whole out : List ℕ) (k : ℕ) (rest : List ℕ) : Type 0 where
-  pub is : sets out k rest ≡ sets blank 0 whole
-  pub len : k + length rest ≡ length whole
+-- a line that something is put behind
+pub with-line : (x l : List ℕ) {a r : Line} → r ≡ lineWith a l → a ≡ asLine x → length x + length l ≤ 162 → r ≡ asLine (x ++ l)
+unfolding asLine blank
+with-line x l q e h =
+    let b = sets-front x l blank (omega (arith, length-replicate {A = ℕ} 162 0)) in
+    let n : length x + length l ≡ length (x ++ l) = sym (length-append x l) in
+    q ∙ ap (λ (y : Line). lineWith y l) e ∙ (λ i. record { bytes = b i; len = n i })
 
-pub left-start : (whole out : List ℕ) → out ≡ blank → Left whole out 0 whole
-left-start whole out e = record { is = ap (λ (x : List ℕ). sets x 0 whole) e; len = omega arith }
+pub with-len : (a : Line) (l : List ℕ) {r : Line} → r ≡ lineWith a l → r .len ≡ a .len + length l
+with-len a l e = ap (λ (y : Line). y .len) e
 
-pub left-more : {whole out : List ℕ} {k : ℕ} (x rest : List ℕ) → Left whole out k (x ++ rest) → {out′ : List ℕ} {k′ : ℕ} → out′ ≡ sets out k x → k′ ≡ k + length x → Left whole out′ k′ rest
-left-more {whole} {out} {k} x rest l p q = record {
-  is = ap₂ (λ (o : List ℕ) (i : ℕ). sets o i rest) p q ∙ sym (sets-append out k x rest) ∙ l .is;
-  len = omega (arith, l .len, length-append x rest);
-}
-
-pub left-end : {whole out : List ℕ} {k : ℕ} → Left whole out k [] → length whole ≤ 162 → _≡_ {A = Line} (record { bytes = out; len = k }) (asLine whole)
+pub line-len : (x : List ℕ) {a : Line} → a ≡ asLine x → a .len ≡ length x
 unfolding asLine
-left-end {whole} {out} {k} l h =
-    let n : 0 + length whole ≡ length whole = omega arith in
-    let e : out ≡ whole ++ drop (length whole) blank = l .is ∙ sets-eq whole blank 0 (omega (arith, length-blank)) ∙ ap (λ (i : ℕ). whole ++ drop i blank) n in
-    let f : k ≡ length whole = omega (arith, l .len) in
-    λ i. record { bytes = e i; len = f i }
+line-len x e = ap (λ (y : Line). y .len) e
 
--- a line behind the first n bytes of a buffer, where it has room
-pub line-appended : (x : Line) (l out : List ℕ) (n : ℕ) → x ≡ asLine l → n + length l ≤ length out
-    → (written out n (take (x .len) (x .bytes)) ≡ sets out n l) × (writtenTo out n (take (x .len) (x .bytes)) ≡ n + length l)
+pub line-size : (x : List ℕ) {a : Line} → a ≡ asLine x → length x ≤ 162 → length (a .bytes) ≡ 162
+unfolding asLine blank
+line-size x e h = ap (λ (y : Line). length (y .bytes)) e ∙ filled-length x blank (omega (arith, length-replicate {A = ℕ} 162 0)) ∙ length-replicate {A = ℕ} 162 0
+
+-- what a line says
+pub line-text : (l : List ℕ) {a : Line} → a ≡ asLine l → take (a .len) (a .bytes) ≡ l
 unfolding asLine
-line-appended x l out n e h =
-    let q : take (x .len) (x .bytes) ≡ l = ap (λ (y : Line). take (y .len) (y .bytes)) e ∙ take-append-seam l (drop (length l) blank) in
-    let b : leb (n + length l) (length out) ≡ true = le-leb (n + length l) (length out) h in
-    (ap (written out n) q ∙ rw b refl, ap (writtenTo out n) q ∙ rw b refl)
+line-text l e = ap (λ (y : Line). take (y .len) (y .bytes)) e ∙ take-append-seam l (drop (length l) blank)

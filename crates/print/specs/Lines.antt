@@ -3,9 +3,10 @@
 use Prim.Native.Nat.{ℕ, zero, suc, _+_, _/_, _%_}
 use mathlib.Core.Bool.{cond}
 use mathlib.Core.List.{List, [], _∷_, _++_}
-use lib.ListN.{length, drop, replicate}
+use lib.ListN.{length, replicate}
 use lib.Seq.{sets}
-use lib.Dec.{ltb, leb}
+use lib.Dec.{ltb}
+use Rattle.rules.specs.Record.{filled}
 use Rattle.text.specs.Ascii.{ascii}
 use Rattle.print.specs.declared.Line.{Line}
 
@@ -27,14 +28,14 @@ dataText (b ∷ bs) = hexText (b ∷ bs)
 unfoldable pub callLine : List ℕ → List ℕ → List ℕ
 callLine entry shown = hexText entry ++ (32 ∷ (dataText shown ++ (10 ∷ [])))
 
--- the last digits of a decimal number, at most k, in front of others
-unfoldable pub decimalOnto : ℕ → ℕ → List ℕ → List ℕ
-decimalOnto zero n ds = ds
-decimalOnto (suc k) n ds = cond (ltb n 10) ((48 + n) ∷ ds) (decimalOnto k (n / 10) ((48 + n % 10) ∷ ds))
+-- the last digits of a number in decimal, at most k
+unfoldable pub digitsText : ℕ → ℕ → List ℕ
+digitsText zero n = []
+digitsText (suc k) n = cond (ltb n 10) ((48 + n) ∷ []) (digitsText k (n / 10) ++ ((48 + n % 10) ∷ []))
 
--- a number below 10 to the 20 in decimal
+-- all of them: n has at most n + 1
 unfoldable pub decimalText : ℕ → List ℕ
-decimalText n = decimalOnto 20 n []
+decimalText n = digitsText (suc n) n
 
 abbrev pub refusedText : List ℕ
 refusedText = ascii "refused "
@@ -63,11 +64,8 @@ unfoldable pub blank : List ℕ
 blank = replicate lineSize 0
 
 unfoldable pub asLine : List ℕ → Line
-asLine l = record { bytes = l ++ drop (length l) blank; len = length l }
+asLine l = record { bytes = filled l blank; len = length l }
 
--- a buffer with bytes behind its first n, and where they end; without room, the buffer as it is, and n
-abbrev pub written : List ℕ → ℕ → List ℕ → List ℕ
-written out n l = cond (leb (n + length l) (length out)) (sets out n l) out
-
-abbrev pub writtenTo : List ℕ → ℕ → List ℕ → ℕ
-writtenTo out n l = cond (leb (n + length l) (length out)) (n + length l) n
+-- a line with bytes behind it
+abbrev pub lineWith : Line → List ℕ → Line
+lineWith x l = record { bytes = sets (x .bytes) (x .len) l; len = x .len + length l }

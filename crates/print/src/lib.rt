@@ -1,14 +1,11 @@
 // The lines that the programs print.
 ghost use mathlib.Core.Path.{_≡_};
+ghost use mathlib.Core.List.{[], _∷_, _++_};
 ghost use Prim.Native.Nat.{_+_, _*_, _<_, _≤_};
-ghost use lib.ListN.{length, take, drop};
-ghost use lib.Seq.{sets};
-ghost use Rattle.rules.specs.Record.{recordSize, filled};
+ghost use lib.ListN.{length, take};
+ghost use Rattle.rules.specs.Record.{recordSize};
 ghost use Rattle.label.specs.Words.{words};
-ghost use Rattle.records.specs.Shown.{recordAt};
-ghost use Rattle.print.specs.Lines.{digitText, hexText, dataText, decimalText, callLine, recordLine, refusedLine, refusedAudit, blank, asLine, lineSize, written, writtenTo};
-ghost use Rattle.print.specs.Lists.{isLeft, recordPieces, asListed};
-ghost use Rattle.print.specs.Chunks.{chunk};
+ghost use Rattle.print.specs.Lines.{digitText, hexText, dataText, decimalText, callLine, recordLine, refusedText, refusedLine, refusedAudit, lineSize, lineWith, asLine};
 
 // A line: the first len of some bytes. The longest is that of a record and 64 bytes shown.
 pub struct Line {
@@ -16,7 +13,16 @@ pub struct Line {
     pub len: usize,
 }
 
-fn digit(n: u8) -> u8
+fn empty() -> Line
+    ensures { λ r. ⌜ r ≡ asLine [] ⌝ }
+{
+    Line {
+        bytes: [0u8; 162],
+        len: 0,
+    }
+}
+
+fn digit_text(n: u8) -> u8
     requires { ⌜ n < 16 ⌝ }
     ensures { λ r. ⌜ r ≡ digitText n ⌝ }
 {
@@ -26,198 +32,114 @@ fn digit(n: u8) -> u8
     87 + n
 }
 
-// The functions from here to put_decimal write into out, from index at on, and answer where they end.
+// The functions from here to with_decimal put something behind a line; with_hex also a byte, and with_data byte 10.
 
-fn hex_into(src: &[u8], out: &mut [u8], at: usize) -> usize
-    requires { ⌜ at + length (now src) * 2 ≤ length (now out) ⌝ }
-    ensures { λ r. ⌜ (now (out .exit) ≡ sets (now (out .entry)) at (hexText (now (src .entry)))) × (r ≡ at + length (hexText (now (src .entry)))) ⌝ }
+fn with_byte(line: Line, b: u8) -> Line
+    requires { ⌜ line .len < lineSize ⌝ }
+    ensures { λ r. ⌜ r ≡ lineWith line (b ∷ []) ⌝ }
 {
+    let mut bytes = line.bytes;
+    let n = line.len;
+    bytes[n] = b;
+    Line {
+        bytes: bytes,
+        len: n + 1,
+    }
+}
+
+fn with_bytes(line: Line, src: &[u8]) -> Line
+    requires { ⌜ (line .len + length (now src) ≤ lineSize) × (length (line .bytes) ≡ lineSize) ⌝ }
+    ensures { λ r. ⌜ r ≡ lineWith line (now (src .entry)) ⌝ }
+{
+    let mut bytes = line.bytes;
+    let n = line.len;
+    bytes::copy(src, &mut bytes[n..]);
+    Line {
+        bytes: bytes,
+        len: n + src.len(),
+    }
+}
+
+fn with_hex(line: Line, src: &[u8], end: u8) -> Line
+    requires { ⌜ line .len + length (now src) * 2 < lineSize ⌝ }
+    ensures { λ r. ⌜ r ≡ lineWith line (hexText (now (src .entry)) ++ (end ∷ [])) ⌝ }
+{
+    let mut bytes = line.bytes;
+    let mut k = line.len;
     let mut i = 0;
-    let mut k = at;
     while i < src.len() {
         let b = src[i];
-        out[k] = digit(b / 16);
-        out[k + 1] = digit(b % 16);
+        bytes[k] = digit_text(b / 16);
+        bytes[k + 1] = digit_text(b % 16);
         k += 2;
         i += 1;
     }
-    k
+    bytes[k] = end;
+    Line {
+        bytes: bytes,
+        len: k + 1,
+    }
 }
 
-fn bytes_into(src: &[u8], out: &mut [u8], at: usize) -> usize
-    requires { ⌜ at + length (now src) ≤ length (now out) ⌝ }
-    ensures { λ r. ⌜ (now (out .exit) ≡ sets (now (out .entry)) at (now (src .entry))) × (r ≡ at + length (now (src .entry))) ⌝ }
-{
-    bytes::copy(src, &mut out[at..]);
-    at + src.len()
-}
-
-fn data_into(src: &[u8], out: &mut [u8], at: usize) -> usize
-    requires { ⌜ at + length (dataText (now src)) ≤ length (now out) ⌝ }
-    ensures { λ r. ⌜ (now (out .exit) ≡ sets (now (out .entry)) at (dataText (now (src .entry)))) × (r ≡ at + length (dataText (now (src .entry)))) ⌝ }
+fn with_data(line: Line, src: &[u8]) -> Line
+    requires { ⌜ line .len + length (dataText (now src)) < lineSize ⌝ }
+    ensures { λ r. ⌜ r ≡ lineWith line (dataText (now (src .entry)) ++ (10 ∷ [])) ⌝ }
 {
     if src.len() == 0 {
-        return bytes_into(b"-", out, at);
+        return with_byte(with_byte(line, 45), 10);
     }
-    hex_into(src, out, at)
+    with_hex(line, src, 10)
 }
 
-// A decimal number of at most 20 digits: the bytes from a place on.
-pub struct Digits {
-    pub bytes: [u8; 20],
-    pub from: usize,
-}
-
-fn no_digits() -> [u8; 20]
-    ensures { λ r. ⌜ length r ≡ 20 ⌝ }
+fn with_decimal(line: Line, n: u64) -> Line
+    requires { ⌜ line .len + length (decimalText n) ≤ lineSize ⌝ }
+    ensures { λ r. ⌜ r ≡ lineWith line (decimalText n) ⌝ }
 {
-    [0u8; 20]
-}
-
-fn decimal(n: u64) -> Digits
-    ensures { λ r. ⌜ (drop (r .from) (r .bytes) ≡ decimalText n) × (r .from ≤ 20) × (length (r .bytes) ≡ 20) ⌝ }
-{
-    let mut bytes = no_digits();
-    let mut from: usize = 20;
-    let mut left = n;
-    while 10 <= left {
-        from -= 1;
-        bytes[from] = 48 + ((left % 10) as u8);
-        left = left / 10;
+    if n < 10 {
+        return with_byte(line, 48 + (n as u8));
     }
-    from -= 1;
-    bytes[from] = 48 + (left as u8);
-    Digits {
-        bytes: bytes,
-        from: from,
-    }
-}
-
-fn put_decimal(n: u64, out: &mut [u8], at: usize) -> usize
-    requires { ⌜ at + 20 ≤ length (now out) ⌝ }
-    ensures { λ r. ⌜ (now (out .exit) ≡ sets (now (out .entry)) at (decimalText n)) × (r ≡ at + length (decimalText n)) × (length (decimalText n) ≤ 20) ⌝ }
-{
-    let d = decimal(n);
-    let from = d.from;
-    let bytes = d.bytes;
-    bytes_into(&bytes[from..], &mut *out, at)
-}
-
-fn blank() -> [u8; 162]
-    ensures { λ r. ⌜ r ≡ blank ⌝ }
-{
-    [0u8; 162]
-}
-
-// The line of a call: its record, and the first n bytes of show's buffer.
-pub fn call_line(entry: [u8; records::SIZE], buffer: [u8; 64], n: usize) -> Line
-    ensures { λ r. ⌜ r ≡ asLine (callLine entry (take n buffer)) ⌝ }
-{
-    let mut bytes = blank();
-    let a = hex_into(&entry, &mut bytes, 0);
-    let b = bytes_into(b" ", &mut bytes, a);
-    let c = data_into(handing::front(&buffer, n), &mut bytes, b);
-    let d = bytes_into(b"\n", &mut bytes, c);
-    Line {
-        bytes: bytes,
-        len: d,
-    }
-}
-
-// The line of a refused text.
-pub fn refused_line(number: u8, line: usize) -> Line
-    ensures { λ r. ⌜ r ≡ asLine (refusedLine number line) ⌝ }
-{
-    let mut bytes = blank();
-    let a = bytes_into(b"refused ", &mut bytes, 0);
-    let b = put_decimal(number as u64, &mut bytes, a);
-    let c = bytes_into(b" line ", &mut bytes, b);
-    let d = put_decimal(line as u64, &mut bytes, c);
-    let e = bytes_into(b"\n", &mut bytes, d);
-    Line {
-        bytes: bytes,
-        len: e,
-    }
-}
-
-// The line of a refused audit.
-pub fn refused_audit(number: u8) -> Line
-    ensures { λ r. ⌜ r ≡ asLine (refusedAudit number) ⌝ }
-{
-    let mut bytes = blank();
-    let a = bytes_into(b"refused ", &mut bytes, 0);
-    let b = put_decimal(number as u64, &mut bytes, a);
-    let c = bytes_into(b"\n", &mut bytes, b);
-    Line {
-        bytes: bytes,
-        len: c,
-    }
+    with_byte(with_decimal(line, n / 10), 48 + ((n % 10) as u8))
 }
 
 // Bytes as they are, in the place of a line; of more than a line can hold, its first.
 pub fn line_of(src: &[u8]) -> Line
     ensures { λ r. ⌜ r ≡ asLine (take lineSize (now (src .entry))) ⌝ }
 {
-    let mut bytes = blank();
-    let n = bytes_into(handing::front(src, 162), &mut bytes, 0);
-    Line {
-        bytes: bytes,
-        len: n,
-    }
+    with_bytes(empty(), handing::front(src, 162))
 }
 
-// A line goes behind the first n bytes of a buffer. Answers where it ends; where it has no room, n, and nothing is written.
-pub fn append(line: Line, out: &mut [u8], n: usize) -> usize
-    ensures { λ r. ⌜ (now (out .exit) ≡ written (now (out .entry)) n (take (line .len) (line .bytes))) × (r ≡ writtenTo (now (out .entry)) n (take (line .len) (line .bytes))) ⌝ }
+// The line of a call: its record, and the first n bytes of show's buffer.
+pub fn call_line(entry: [u8; records::SIZE], buffer: [u8; 64], n: usize) -> Line
+    ensures { λ r. ⌜ r ≡ asLine (callLine entry (take n buffer)) ⌝ }
 {
-    let bytes = line.bytes;
-    let src = handing::front(&bytes, line.len);
-    if out.len() < n {
-        return n;
-    }
-    if out.len() - n < src.len() {
-        return n;
-    }
-    bytes_into(src, out, n)
+    let record = with_hex(empty(), &entry, 32);
+    with_data(record, handing::front(&buffer, n))
 }
 
-// A part of a list's lines: the place of the next record, and how many bytes of a lent buffer they take.
-pub struct Listed {
-    pub at: usize,
-    pub len: usize,
-}
-
-fn is_left(list: &[u8], at: usize) -> bool
-    ensures { λ r. ⌜ r ≡ isLeft (now (list .entry)) at ⌝ }
+// The line of the record at a slice's front.
+pub fn record_line(src: &[u8]) -> Line
+    ensures { λ r. ⌜ r ≡ asLine (recordLine (take (recordSize words) (now (src .entry)))) ⌝ }
 {
-    if list.len() < records::SIZE {
-        return false;
-    }
-    if list.len() - records::SIZE < at {
-        return false;
-    }
-    true
+    with_hex(empty(), handing::front(src, records::SIZE), 10)
 }
 
-// Writes the line of the record at a place of a list into out, from index n on, and answers where it ends.
-fn record_into(list: &[u8], at: usize, out: &mut [u8], n: usize) -> usize
-    requires { ⌜ (at + recordSize words ≤ length (now list)) × (n + 33 ≤ length (now out)) ⌝ }
-    ensures { λ r. ⌜ (now (out .exit) ≡ sets (now (out .entry)) n (recordLine (recordAt (now (list .entry)) at))) × (r ≡ n + length (recordLine (recordAt (now (list .entry)) at))) ⌝ }
+fn refused(number: u8) -> Line
+    ensures { λ r. ⌜ r ≡ asLine (refusedText ++ decimalText number) ⌝ }
 {
-    let m = hex_into(&list[at..at + records::SIZE], out, n);
-    bytes_into(b"\n", out, m)
+    with_decimal(line_of(b"refused "), number as u64)
 }
 
-// The lines of a list's records from a place on go to the front of a lent buffer, as long as a line has room there.
-pub fn record_lines(list: &[u8], from: usize, out: &mut [u8]) -> Listed
-    ensures { λ r. ⌜ r ≡ asListed (chunk (recordPieces (now (list .entry))) (length (now (out .entry))) from) ⌝ }
-    ensures { λ _. ⌜ now (out .exit) ≡ filled (chunk (recordPieces (now (list .entry))) (length (now (out .entry))) from .0) (now (out .entry)) ⌝ }
+// The line of a refused audit.
+pub fn refused_audit(number: u8) -> Line
+    ensures { λ r. ⌜ r ≡ asLine (refusedAudit number) ⌝ }
 {
-    let mut at = from;
-    let mut n = 0;
-    while is_left(list, at) && 33 <= out.len() - n {
-        n = record_into(list, at, out, n);
-        at += records::SIZE;
-    }
-    Listed { at: at, len: n }
+    with_byte(refused(number), 10)
+}
+
+// The line of a refused text.
+pub fn refused_line(number: u8, line: usize) -> Line
+    ensures { λ r. ⌜ r ≡ asLine (refusedLine number line) ⌝ }
+{
+    let text = with_bytes(refused(number), b" line ");
+    with_byte(with_decimal(text, line as u64), 10)
 }

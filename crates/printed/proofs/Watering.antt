@@ -28,14 +28,15 @@ use Rattle.monitor.specs.declared.Table.{Table}
 use Rattle.monitor.specs.Table.{formed, entityAt, withSlot, emptyTable, hub}
 use Rattle.monitor.proofs.Form.{hub-laws}
 use Rattle.monitor.proofs.Empty.{empty-entity, empty-form}
-use Rattle.text.specs.Bytes.{eqBytes, indexOf, digitOf, decimalFrom, decimalOf, setFrom, hexSetOf, pairsFrom, dataOf}
+use Rattle.text.specs.Bytes.{eqBytes, indexOf}
+use Rattle.values.specs.Values.{digitOf, decimalFrom, decimalOf, setFrom, hexSetOf, pairsFrom, dataOf}
 use Rattle.text.specs.Lines.{before, linesOf, lineEnd, lineAt, nextLine, ahead, fieldsIn, hasNames, namesOnce, columnOf}
 use Rattle.callrows.specs.Calls.{callColumns, callNamed, dataIf, showBuffer, callBy, callOf}
 use Rattle.rows.specs.Entities.{kindNamed, entityFormed, entityColumns, entityIn, entityBy, entityOf}
 use Rattle.load.specs.declared.Verdict.the-variants.{Accepted}
-use Rattle.load.specs.Blocks.{bytesPast, linesPast, start, pastEmpty, groupsAt, callsAt, rowsBad, blockBad, entitiesBad, groupsBad, callsBad, orElse, badLine}
-use Rattle.load.specs.CallsIn.{callsFrom, callColumnsIn, callsOf}
-use Rattle.load.specs.Tables.{fill, breaking, groupsFrom, noGroups, grouped, withGroups, entitiesIn, groupsIn, tableIn, breakingIn}
+use Rattle.textblocks.specs.Blocks.{bytesPast, linesPast, start, pastEmpty, groupsAt, callsAt, rowsBad, blockBad, entitiesBad, groupsBad, callsBad, orElse, badLine}
+use Rattle.textblocks.specs.CallsIn.{callsFrom, callColumnsIn, callsOf}
+use Rattle.load.specs.Tables.{groupsFrom, emptyWith, breaksAt, withEntity, fill, groupsIn, entitiesIn, tableIn}
 use Rattle.load.specs.Load.{refuseAt, verdictOf, loadOf}
 use Rattle.print.specs.Lines.{digitText, hexText, dataText, callLine}
 use Rattle.round.specs.Round.{namesLine, answerLine, outputOf}
@@ -44,7 +45,7 @@ use Rattle.printed.specs.Watering.{watering, wateringPrints, WateringPri
 
 -- what a text is read with
 unfoldable pub reading : ℕ
-unfolding computed eqBytes indexOf digitOf digitIn withDigit decimalFrom decimalOf setFrom hexSetOf pairsFrom dataOf before linesOf lineEnd lineAt nextLine ahead fieldsIn hasNames namesOnce columnOf callColumns callNamed dataIf showBuffer callBy callOf kindNamed entityFormed entityColumns entityIn entityBy entityOf bytesPast linesPast start pastEmpty groupsAt callsAt rowsBad blockBad entitiesBad groupsBad callsBad orElse badLine callsFrom callColumnsIn callsOf fill breaking groupsFrom noGroups grouped withGroups entitiesIn groupsIn tableIn breakingIn refuseAt verdictOf entityAt withSlot emptyTable
+unfolding computed eqBytes indexOf digitOf digitIn withDigit decimalFrom decimalOf setFrom hexSetOf pairsFrom dataOf before linesOf lineEnd lineAt nextLine ahead fieldsIn hasNames namesOnce columnOf callColumns callNamed dataIf showBuffer callBy callOf kindNamed entityFormed entityColumns entityIn entityBy entityOf bytesPast linesPast start pastEmpty groupsAt callsAt rowsBad blockBad entitiesBad groupsBad callsBad orElse badLine callsFrom callColumnsIn callsOf groupsFrom emptyWith breaksAt withEntity fill groupsIn entitiesIn tableIn refuseAt verdictOf entityAt withSlot emptyTable
 reading = 0
 
 accepted : verdictOf watering ≡ Accepted

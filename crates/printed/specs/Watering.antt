@@ -12,7 +12,7 @@ use Rattle.monitor.specs.Table.{hub}
 use Rattle.text.specs.Ascii.{ascii}
 use Rattle.load.specs.declared.Verdict.the-variants.{Accepted}
 use Rattle.load.specs.Load.{verdictOf, loadOf}
-use Rattle.load.specs.CallsIn.{callsOf}
+use Rattle.textblocks.specs.CallsIn.{callsOf}
 use Rattle.round.specs.Round.{outputOf}
 
 abbrev pub watering : List ℕ

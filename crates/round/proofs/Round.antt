@@ -13,7 +13,7 @@ use borrow.Author.Tests.{eqb-true, eqb-false, ltb-true, ltb-false, lt-ltb, le-lt
 use Rattle.rules.specs.Calls.{Call}
 use Rattle.rules.specs.Refusals.{step}
 use Rattle.rules.specs.Runs.{final, trace}
-use Rattle.rules.proofs.Facts.{and-left}
+use Rattle.rules.proofs.Facts.{and-left, either}
 use Rattle.label.specs.Words.{words}
 use Rattle.monitor.specs.declared.Table.{Table}
 use Rattle.monitor.specs.Table.{hub}
@@ -24,33 +24,32 @@ use Rattle.callrows.specs.Calls.{CallSaid, callNamed, usesOf, numberRead, value
 use Rattle.callrows.specs.declared.CallColumns.{CallColumns}
 use Rattle.callrows.specs.declared.CallRead.{CallRead}
 use Rattle.callrows.specs.declared.CallRead.the-variants as CallRead
-use Rattle.callrows.specs.declared.CallRow.{CallRow}
-use Rattle.load.specs.declared.Place.{Place}
-use Rattle.load.specs.Blocks.{start, pastEmpty, groupsAt, callsAt, rowsAt, isSome, rowGood, rowsBad, blockBad, callsBad, orElse, badLine}
-use Rattle.load.specs.declared.Block.{Block}
-use Rattle.load.specs.declared.Block.the-variants as Block
+use Rattle.textblocks.specs.declared.Place.{Place}
+use Rattle.textblocks.specs.Blocks.{start, pastEmpty, groupsAt, callsAt, rowsAt, isSome, rowGood, rowsBad, blockBad, callsBad, orElse, badLine}
+use Rattle.textblocks.specs.declared.Block.{Block}
+use Rattle.textblocks.specs.declared.Block.the-variants as Block
 use Rattle.load.specs.declared.Verdict.{Verdict}
 use Rattle.load.specs.declared.Verdict.the-variants.{Accepted, Refused}
 use Rattle.load.specs.Load.{verdictOf, loadOf}
-use Rattle.load.specs.CallsIn.{callsFrom, callColumnsIn, callsOf, callAt}
+use Rattle.textblocks.specs.CallsIn.{callsFrom, callColumnsIn, callsOf, callAt}
 use Rattle.load.proofs.Accepted.{bad-none}
-use Rattle.load.proofs.Laws.{rows-cut, rows-bad, rows-step}
-use Rattle.print.specs.Chunks.{Bounded, onto, chunkFrom, chunk, ChunksAdvance}
-use Rattle.print.proofs.Chunks.{goes-room, one-taken, none-taken, none-joined, no-piece, chunk-then, chunks-join, chunks-advance}
-use Rattle.round.specs.declared.Form.{Form}
-use Rattle.round.specs.declared.Form.the-variants as Form
-use Rattle.round.specs.Played.{played}
-use Rattle.round.specs.Round.{pieceOf, mostOf, firstAt, callPieces, answerLine, outputWith, outputOf, roundOf, namesLine, OutputRuns, OutputInChunks, RecordsRun}
-use Rattle.round.proofs.Calls.{ruleOf, piece-is, table-is, piece-most}
+use Rattle.textblocks.proofs.Laws.{rows-cut, rows-bad, rows-step}
+use Rattle.chunks.specs.Chunks.{Bounded, onto, chunkFrom, chunk, ChunksAdvance}
+use Rattle.chunks.proofs.Chunks.{goes-room, one-taken, none-taken, none-concat, no-piece, chunk-then, chunks-join, chunks-advance}
+use Rattle.round.specs.declared.Made.{Made}
+use Rattle.round.specs.declared.Made.the-variants as Made
+use Rattle.round.specs.Played.{madeOf, played}
+use Rattle.round.specs.Round.{mostOf, firstAt, callPieces, answerLine, outputWith, outputOf, roundOf, namesLine, OutputRuns, OutputInChunks, RecordsRun}
+use Rattle.round.proofs.Calls.{played-is, piece-most}
 
-pub call-bounded : (text : List ℕ) (form : Form) → Bounded (callPieces text form)
-call-bounded text form = record {
-  fits = λ s. piece-most (s .1) form (callAt text (callColumnsIn text) (s .0));
+pub call-bounded : (text : List ℕ) (m : Made) → Bounded (callPieces text m)
+call-bounded text m = record {
+  fits = λ s. piece-most (s .1) m (callAt text (callColumnsIn text) (s .0));
   fewer = λ s e. let l = ltb-true (s .0) (length text) e in omega (arith, next-later text (s .0) l);
 }
 
-pub calls-advance : (text : List ℕ) (form : Form) → ChunksAdvance (callPieces text form)
-calls-advance text form = chunks-advance (callPieces text form) (call-bounded text form)
+pub calls-advance : (text : List ℕ) (m : Made) → ChunksAdvance (callPieces text m)
+calls-advance text m = chunks-advance (callPieces text m) (call-bounded text m)
 
 -- ---- a row of calls takes at least six bytes
 
@@ -115,42 +114,27 @@ end-later : (text : List ℕ) (at : ℕ) → at ≤ lineEnd text at
 unfolding lineEnd
 end-later text at = omega arith
 
-module _ (text : List ℕ) where
-  module _ (at n i : ℕ) (p : 0 < n) (b : rowsBad (Block.Calls (colsOf text)) n i (linesOf (drop at text)) ≡ 0)
-      (ih : rowsBad (Block.Calls (colsOf text)) (n + 1) (i + 1) (linesOf (drop (lineEnd text at + 1) text)) ≡ 0 → Rows text (lineEnd text at + 1)) where
-    module _ (l : at < length text) (w : lineEnd text at < length text) where
-      here : linesOf (drop at text) ≡ line (lineAt text at) (linesOf (drop (lineEnd text at + 1) text))
-      here = line-here text at (lineEnd text at) refl (omega arith) w .is
-
-      row-is : (g : Bool) → rowGood (Block.Calls (colsOf text)) i (lineAt text at) ≡ g → Rows text at
-      row-is true g =
-          let s = good-some (callOf (colsOf text) (fieldsIn (lineAt text at))) g in
-          row (s .0) l w (s .1) (ih (sym (rows-step (Block.Calls (colsOf text)) n i here _ refl refl g) ∙ b))
-      row-is false g = let q = sym (rows-bad (Block.Calls (colsOf text)) n i here _ refl refl g) ∙ b in absurd (omega arith)
-
-    turn : (v : Bool) → ltb at (length text) ≡ v → (w : Bool) → ltb (lineEnd text at) (length text) ≡ w → Rows text at
-    turn true f true g =
-        row-is (ltb-true at (length text) f) (ltb-true (lineEnd text at) (length text) g) (rowGood (Block.Calls (colsOf text)) i (lineAt text at)) refl
-    turn true f false g =
-        let l = ltb-true at (length text) f in
-        let c = line-ends text at (lineEnd text at) (omega arith) refl .last (ltb-false (lineEnd text at) (length text) g) l in
-        let q = sym (rows-cut (Block.Calls (colsOf text)) n i c) ∙ b in
-        absurd (omega arith)
-    turn false f w g = end (ltb-false at (length text) f)
-
-  rows-are : (k at n i : ℕ) → length text ≤ at + k → 0 < n → rowsBad (Block.Calls (colsOf text)) n i (linesOf (drop at text)) ≡ 0 → Rows text at
-  rows-are zero at n i m p b = end {at = at} (omega arith)
-  rows-are (suc k) at n i m p b =
-      turn at n i p b (λ d. rows-are k (lineEnd text at + 1) (n + 1) (i + 1) (omega (arith, end-later text at)) (omega arith) d)
-      (ltb at (length text)) refl (ltb (lineEnd text at) (length text)) refl
+rows-are : (text : List ℕ) (k at n i : ℕ) → length text ≤ at + k → 0 < n → rowsBad (Block.Calls (colsOf text)) n i (linesOf (drop at text)) ≡ 0 → Rows text at
+rows-are text zero at n i m p b = end {at = at} (omega arith)
+rows-are text (suc k) at n i m p b =
+    let B = Block.Calls (colsOf text) in
+    either (ltb at (length text))
+    (λ f. let l = ltb-true at (length text) f in
+    either (ltb (lineEnd text at) (length text))
+    (λ f. let w = ltb-true (lineEnd text at) (length text) f in
+    let here = line-here text at (lineEnd text at) refl (omega arith) w .is in
+    either (rowGood B i (lineAt text at))
+    (λ g. let s = good-some (callOf (colsOf text) (fieldsIn (lineAt text at))) g in
+    row (s .0) l w (s .1) (rows-are text k (lineEnd text at + 1) (n + 1) (i + 1) (omega (arith, end-later text at)) (omega arith) (sym (rows-step B n i here _ refl refl g) ∙ b)))
+    (λ g. let q = sym (rows-bad B n i here _ refl refl g) ∙ b in absurd (omega arith)))
+    (λ f. let c = line-ends text at (lineEnd text at) (omega arith) refl .last (ltb-false (lineEnd text at) (length text) f) l in
+    let q = sym (rows-cut B n i c) ∙ b in
+    absurd (omega arith)))
+    (λ f. end (ltb-false at (length text) f))
 
 else-none : (a b : ℕ) → orElse a b ≡ 0 → b ≡ 0
 unfolding orElse
-else-none a b e = go (eqb a 0) refl e
-  where
-    go : (t : Bool) → eqb a 0 ≡ t → cond t b a ≡ 0 → b ≡ 0
-    go true f q = q
-    go false f q = absurd (eqb-false a 0 f q)
+else-none a b e = either (eqb a 0) (λ f. rw f at e) (λ f. absurd (eqb-false a 0 f (rw f at e)))
 
 rows-none : (b : Block) (named : Bool) (text : List ℕ) (p : Place) → 0 < p .line → blockBad b named text p ≡ 0 → rowsBad b (p .line + 1) 0 (rowsAt text p) ≡ 0
 unfolding blockBad
@@ -183,17 +167,17 @@ module _ (text : List ℕ) (e : verdictOf text ≡ Accepted) where
 -- ---- a buffer with room for all rows
 
 -- what a run of calls gives, the table after it, and no line left
-module _ (text : List ℕ) (form : Form) where
+module _ (text : List ℕ) (m : Made) where
   pub record Ran (t : Table) (cs : List (Call words)) (r : List ℕ × (ℕ × Table)) : Type 0 where
-    pub bytes : r .0 ≡ trace (step hub) (ruleOf form) t cs
+    pub bytes : r .0 ≡ trace (step hub) (madeOf m) t cs
     pub table : r .1 .1 ≡ final (step hub) t cs
     pub all : length text ≤ r .1 .0
 
-  none-ran : (k room at : ℕ) (t : Table) → length text ≤ at → Ran t (callsFrom (colsOf text) (linesOf (drop at text))) (chunkFrom (callPieces text form) k room (at, t))
+  none-ran : (k room at : ℕ) (t : Table) → length text ≤ at → Ran t (callsFrom (colsOf text) (linesOf (drop at text))) (chunkFrom (callPieces text m) k room (at, t))
   unfolding callsFrom
   none-ran k room at t h =
-      subst (λ (ls : Lines). Ran t (callsFrom (colsOf text) ls) (chunkFrom (callPieces text form) k room (at, t))) (sym (lines-end text at h))
-      (subst (Ran t []) (sym (none-taken (callPieces text form) k room (at, t) (no-piece (callPieces text form) room (at, t) (le-ltb _ _ h)))) (record { bytes = refl; table = refl; all = h }))
+      subst (λ (ls : Lines). Ran t (callsFrom (colsOf text) ls) (chunkFrom (callPieces text m) k room (at, t))) (sym (lines-end text at h))
+      (subst (Ran t []) (sym (none-taken (callPieces text m) k room (at, t) (no-piece (callPieces text m) room (at, t) (le-ltb _ _ h)))) (record { bytes = refl; table = refl; all = h }))
 
   -- a row that is a call
   module _ (at : ℕ) (t : Table) (c : CallSaid) (w : lineEnd text at < length text) (e : callOf (colsOf text) (fieldsIn (lineAt text at)) ≡ some c) where
@@ -201,59 +185,56 @@ module _ (text : List ℕ) (form : Form) where
     unfolding callAt
     call-is = ap asCallRow e
 
-    piece-here : callPieces text form .piece (at, t) ≡ ruleOf form t (callIn c)
-    piece-here = ap (λ (r : CallRow). pieceOf form (played t r)) call-is ∙ piece-is t c form
+    played-here : played m t (callAt text (callColumnsIn text) at) ≡ (madeOf m t (callIn c), step hub t (callIn c))
+    played-here = ap (played m t) call-is ∙ played-is t m c
 
-    next-here : callPieces text form .next (at, t) ≡ (lineEnd text at + 1, step hub t (callIn c))
-    next-here =
-        let n = next-whole text at w in
-        let u : played t (callAt text (callColumnsIn text) at) .table ≡ step hub t (callIn c) = ap (λ (r : CallRow). played t r .table) call-is ∙ table-is t c in
-        λ i. (n i, u i)
+    next-here : callPieces text m .next (at, t) ≡ (lineEnd text at + 1, step hub t (callIn c))
+    next-here = let n = next-whole text at w in λ i. (n i, played-here i .1)
 
     calls-here : at < length text → callsFrom (colsOf text) (linesOf (drop at text)) ≡ callIn c ∷ callsFrom (colsOf text) (linesOf (drop (lineEnd text at + 1) text))
     unfolding callsFrom
     calls-here l = rw (line-here text at (lineEnd text at) refl (omega arith) w .is, callsFrom, e)
 
-  one-ran : (t : Table) (c : Call words) (cs : List (Call words)) (x : List ℕ) (r : List ℕ × (ℕ × Table)) → x ≡ ruleOf form t c → Ran (step hub t c) cs r → Ran t (c ∷ cs) (onto x r)
+  one-ran : (t : Table) (c : Call words) (cs : List (Call words)) (x : List ℕ) (r : List ℕ × (ℕ × Table)) → x ≡ madeOf m t c → Ran (step hub t c) cs r → Ran t (c ∷ cs) (onto x r)
   one-ran t c cs x r e q = record { bytes = ap₂ (λ (a b : List ℕ). a ++ b) e (q .bytes); table = q .table; all = q .all }
 
   -- so many rows take six bytes of the text each
-  rows-ran : {at : ℕ} → Rows text at → (k q room : ℕ) (t : Table) → length text ≤ at + k → length text ≤ at + 6 * q + 5 → q * mostOf form ≤ room
-      → Ran t (callsFrom (colsOf text) (linesOf (drop at text))) (chunkFrom (callPieces text form) k room (at, t))
-  rows-ran {at} (end h) k q room t m f r = none-ran k room at t h
-  rows-ran {at} (row c l w e rs) zero q room t m f r = absurd (omega arith)
-  rows-ran {at} (row c l w e rs) (suc k) zero room t m f r = absurd (omega (arith, row-long text at (colsOf text) c e))
-  rows-ran {at} (row c l w e rs) (suc k) (suc q) room t m f r =
-      let P = callPieces text form in
-      let s = suc-mul q (mostOf form) in
+  rows-ran : {at : ℕ} → Rows text at → (k q room : ℕ) (t : Table) → length text ≤ at + k → length text ≤ at + 6 * q + 5 → q * mostOf m ≤ room
+      → Ran t (callsFrom (colsOf text) (linesOf (drop at text))) (chunkFrom (callPieces text m) k room (at, t))
+  rows-ran {at} (end h) k q room t u f r = none-ran k room at t h
+  rows-ran {at} (row c l w e rs) zero q room t u f r = absurd (omega arith)
+  rows-ran {at} (row c l w e rs) (suc k) zero room t u f r = absurd (omega (arith, row-long text at (colsOf text) c e))
+  rows-ran {at} (row c l w e rs) (suc k) (suc q) room t u f r =
+      let P = callPieces text m in
+      let s = suc-mul q (mostOf m) in
       let d = row-long text at (colsOf text) c e in
-      let z = call-bounded text form .fits (at, t) in
+      let z = call-bounded text m .fits (at, t) in
       let rest = rows-ran rs k q (room - length (P .piece (at, t))) (step hub t (callIn c)) (omega arith) (omega arith) (omega arith) in
       subst (λ (cs : List (Call words)). Ran t cs (chunkFrom P (suc k) room (at, t))) (sym (calls-here at t c w e l))
       (subst (Ran t (callIn c ∷ callsFrom (colsOf text) (linesOf (drop (lineEnd text at + 1) text))))
       (sym (one-taken P k room (at, t) (goes-room P room (at, t) (lt-ltb _ _ l) (omega arith))
       ∙ ap (λ (u : ℕ × Table). onto (P .piece (at, t)) (chunkFrom P k (room - length (P .piece (at, t))) u)) (next-here at t c w e)))
-      (one-ran t (callIn c) _ (P .piece (at, t)) _ (piece-here at t c w e) rest))
+      (one-ran t (callIn c) _ (P .piece (at, t)) _ (ap (λ (x : List ℕ × Table). x .0) (played-here at t c w e)) rest))
 
-  calls-ran : (q room : ℕ) (t : Table) → verdictOf text ≡ Accepted → length text ≤ 6 * q + 5 → q * mostOf form ≤ room
-      → Ran t (callsOf text) (chunk (callPieces text form) room (firstAt text, t))
+  calls-ran : (q room : ℕ) (t : Table) → verdictOf text ≡ Accepted → length text ≤ 6 * q + 5 → q * mostOf m ≤ room
+      → Ran t (callsOf text) (chunk (callPieces text m) room (firstAt text, t))
   unfolding callsOf
   calls-ran q room t e f r = rows-ran (rows-of text e) (length text - firstAt text) q room t (omega arith) (omega arith) r
 
 pub records-run : RecordsRun
 records-run text room t e h =
-    let r = calls-ran text Form.Records 10922 room t e (omega (arith, text-most text e)) (omega arith) in
+    let r = calls-ran text Made.Entries 10922 room t e (omega (arith, text-most text e)) (omega arith) in
     (r .bytes, r .table, r .all)
 
 -- all lines are one chunk of a buffer that is large enough
 round-runs : (text : List ℕ) → verdictOf text ≡ Accepted → roundOf text ≡ trace (step hub) answerLine (loadOf text .table) (callsOf text)
 round-runs text e =
-    let P = callPieces text Form.Lines in
+    let P = callPieces text Made.Lines in
     let s : ℕ × Table = (firstAt text, loadOf text .table) in
     let c = chunk P (length text * 162) s in
-    let r = calls-ran text Form.Lines (length text) (length text * 162) (loadOf text .table) e (omega arith) (omega arith) in
+    let r = calls-ran text Made.Lines (length text) (length text * 162) (loadOf text .table) e (omega arith) (omega arith) in
     ap (λ (x : List ℕ × (ℕ × Table)). x .0)
-    (chunk-then P (call-bounded text Form.Lines) (P .left s) (length text * 162) s (omega arith) ∙ ap (onto (c .0)) (none-joined P (P .left (c .1)) (c .1) (le-ltb _ _ (r .all))))
+    (chunk-then P (call-bounded text Made.Lines) (P .left s) (length text * 162) s (omega arith) ∙ ap (onto (c .0)) (none-concat P (P .left (c .1)) (c .1) (le-ltb _ _ (r .all))))
     ∙ append-nil (c .0) ∙ r .bytes
 
 pub output-runs : OutputRuns
@@ -266,4 +247,4 @@ output-runs text = go (verdictOf text) refl
 pub output-in-chunks : OutputInChunks
 output-in-chunks text room h =
     ap (λ (r : List ℕ × (ℕ × Table)). outputWith text (r .0))
-    (chunks-join (callPieces text Form.Lines) (call-bounded text Form.Lines) room (firstAt text, loadOf text .table) h)
+    (chunks-join (callPieces text Made.Lines) (call-bounded text Made.Lines) room (firstAt text, loadOf text .table) h)

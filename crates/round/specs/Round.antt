@@ -1,70 +1,57 @@
 -- Document 01, 'A watering round through hubcalls': what is made of a text's calls, and what the programs print of it.
 -- Assumes nothing.
 use mathlib.Core.Path.{_≡_}
-use mathlib.Core.Bool.{Bool, cond}
-use mathlib.Core.List.{List, [], _++_}
+use mathlib.Core.List.{List, _++_}
 use Prim.Native.Nat.{ℕ, _-_, _≤_}
 use lib.Dec.{ltb}
-use lib.ListN.{length, take}
+use lib.ListN.{length}
 use Rattle.rules.specs.Calls.{Call}
 use Rattle.rules.specs.Refusals.{step}
-use Rattle.rules.specs.Record.{recordSize, answer}
+use Rattle.rules.specs.Record.{recordSize}
 use Rattle.rules.specs.Runs.{final, trace, records}
 use Rattle.label.specs.Words.{words}
 use Rattle.monitor.specs.declared.Table.{Table}
 use Rattle.monitor.specs.Table.{hub}
 use Rattle.text.specs.Ascii.{ascii}
 use Rattle.text.specs.Lines.{nextLine}
-use Rattle.callrows.specs.declared.CallColumns.{CallColumns}
 use Rattle.load.specs.declared.Verdict.the-variants.{Accepted}
-use Rattle.load.specs.Blocks.{callsAt}
+use Rattle.textblocks.specs.Blocks.{callsAt}
 use Rattle.load.specs.Load.{verdictNumber, verdictLine, verdictOf, onAccepted, loadOf}
-use Rattle.load.specs.CallsIn.{callColumnsIn, callsOf, callAt}
-use Rattle.print.specs.Lines.{lineSize, callLine, refusedLine}
-use Rattle.print.specs.Chunks.{Pieces, joined, chunk, chunks}
-use Rattle.round.specs.declared.Form.{Form}
-use Rattle.round.specs.declared.Form.the-variants.{Lines, Records}
-use Rattle.round.specs.declared.Played.{Played}
-use Rattle.round.specs.declared.Part.{Part}
-use Rattle.round.specs.Played.{played}
+use Rattle.textblocks.specs.CallsIn.{callColumnsIn, callsOf, callAt}
+use Rattle.print.specs.Lines.{lineSize, refusedLine}
+use Rattle.chunks.specs.Chunks.{Pieces, concat, chunk, chunks}
+use Rattle.round.specs.declared.Made.{Made}
+use Rattle.round.specs.declared.Made.the-variants.{Lines, Entries}
+use Rattle.round.specs.declared.CallsChunk.{CallsChunk}
+use Rattle.round.specs.Played.{madeOf, played}
 
 -- ---- by the program's functions
 
 -- the row at a place, played on a table
-abbrev pub playedAt : List ℕ → CallColumns → ℕ → Table → Played
-playedAt text cs at t = played t (callAt text cs at)
+abbrev pub playedAt : Made → List ℕ → ℕ → Table → List ℕ × Table
+playedAt m text at t = played m t (callAt text (callColumnsIn text) at)
 
--- what is made of a call: the line of its record and of the bytes shown; or its record. Nothing of a row that is no call
-abbrev pub madeOf : Form → List ℕ → List ℕ → List ℕ
-madeOf Lines entry shown = callLine entry shown
-madeOf Records entry shown = entry
-
-abbrev pub pieceWith : Form → Bool → List ℕ → List ℕ → List ℕ
-pieceWith form called entry shown = cond called (madeOf form entry shown) []
-
-abbrev pub pieceOf : Form → Played → List ℕ
-pieceOf form p = pieceWith form (p .called) (p .entry) (take (p .len) (p .buffer))
-
-abbrev pub mostOf : Form → ℕ
+-- how much is made of a row at most
+abbrev pub mostOf : Made → ℕ
 mostOf Lines = lineSize
-mostOf Records = recordSize words
+mostOf Entries = recordSize words
 
 -- the first line of a text's calls
 abbrev pub firstAt : List ℕ → ℕ
 firstAt text = nextLine text (callsAt text .at)
 
 -- line after line, from a place on, each played on the table that the one before left
-abbrev pub callPieces : List ℕ → Form → Pieces (ℕ × Table)
-callPieces text form = record {
+abbrev pub callPieces : List ℕ → Made → Pieces (ℕ × Table)
+callPieces text m = record {
   more = λ s. ltb (s .0) (length text);
-  piece = λ s. pieceOf form (playedAt text (callColumnsIn text) (s .0) (s .1));
-  next = λ s. (nextLine text (s .0), playedAt text (callColumnsIn text) (s .0) (s .1) .table);
+  piece = λ s. playedAt m text (s .0) (s .1) .0;
+  next = λ s. (nextLine text (s .0), playedAt m text (s .0) (s .1) .1);
   left = λ s. length text - s .0;
-  most = mostOf form;
+  most = mostOf m;
 }
 
-abbrev pub asPart : List ℕ × (ℕ × Table) → Part
-asPart r = record { table = r .1 .1; at = r .1 .0; len = length (r .0) }
+abbrev pub asCallsChunk : List ℕ × (ℕ × Table) → CallsChunk
+asCallsChunk r = record { table = r .1 .1; at = r .1 .0; len = length (r .0) }
 
 -- ---- what hubcalls prints
 
@@ -78,14 +65,14 @@ outputWith text lines = onAccepted (verdictOf text) (namesLine ++ lines) (refuse
 
 -- the lines of a text's calls, from its table on
 abbrev pub roundOf : List ℕ → List ℕ
-roundOf text = joined (callPieces text Lines) (firstAt text, loadOf text .table) .0
+roundOf text = concat (callPieces text Lines) (firstAt text, loadOf text .table) .0
 
 abbrev pub outputOf : List ℕ → List ℕ
 outputOf text = outputWith text (roundOf text)
 
 -- the line of a call by the rules: its record, and what it shows
 abbrev pub answerLine : Table → Call words → List ℕ
-answerLine t c = callLine (answer hub t c .entry) (answer hub t c .part)
+answerLine = madeOf Lines
 
 -- For every text the output is that of the rules' run of its calls from its table
 abbrev pub OutputRuns : Type 0
@@ -98,7 +85,7 @@ OutputInChunks = (text : List ℕ) (room : ℕ) → lineSize ≤ room
 
 -- ---- the records that hubaudit audits
 
--- A row of calls has six fields, so that with byte 10 it takes six bytes: so many bytes have room for the records of 65,535
+-- A row of calls has six fields, so that with byte 10 it takes at least six bytes: so many bytes have room for the records of 65,535
 abbrev pub recordsRoom : ℕ
 recordsRoom = 174752
 
@@ -106,6 +93,6 @@ recordsRoom = 174752
 -- the table is that after it, and no line is left
 abbrev pub RecordsRun : Type 0
 RecordsRun = (text : List ℕ) (room : ℕ) (t : Table) → verdictOf text ≡ Accepted → recordsRoom ≤ room
-    → (chunk (callPieces text Records) room (firstAt text, t) .0 ≡ records hub t (callsOf text))
-    × (chunk (callPieces text Records) room (firstAt text, t) .1 .1 ≡ final (step hub) t (callsOf text))
-    × (length text ≤ chunk (callPieces text Records) room (firstAt text, t) .1 .0)
+    → (chunk (callPieces text Entries) room (firstAt text, t) .0 ≡ records hub t (callsOf text))
+    × (chunk (callPieces text Entries) room (firstAt text, t) .1 .1 ≡ final (step hub) t (callsOf text))
+    × (length text ≤ chunk (callPieces text Entries) room (firstAt text, t) .1 .0)

@@ -1,28 +1,32 @@
 // A round: the calls of a text, played one by one.
 ghost use mathlib.Core.Path.{_≡_};
 ghost use mathlib.Core.Bool.{cond};
+ghost use mathlib.Core.List.{[]};
 ghost use Prim.Native.Nat.{_+_};
 ghost use lib.Dec.{ltb};
 ghost use lib.ListN.{length, take};
 ghost use Rattle.rules.specs.Record.{filled};
 ghost use Rattle.callrows.specs.Calls.{showBuffer};
 ghost use Rattle.print.specs.Lines.{asLine};
-ghost use Rattle.print.specs.Chunks.{chunk};
-ghost use Rattle.round.specs.Played.{bytesShown, performed, unplayed, played};
-ghost use Rattle.round.specs.Round.{madeOf, pieceWith, mostOf, firstAt, callPieces, asPart};
+ghost use Rattle.chunks.specs.Chunks.{chunk};
+ghost use Rattle.round.specs.Played.{bytesShown, madeFrom, performed, asPlayed, played};
+ghost use Rattle.round.specs.Round.{mostOf, firstAt, callPieces, asCallsChunk};
 use callrows::CallRead;
 use callrows::CallRow;
 use monitor::Table;
 use print::Line;
 use rules::Call;
 
-// The table after a row, and whether it is a call; the call's record, and the bytes that it shows: the first len of a buffer.
+// What is made of the calls: a printed line of each, or its record.
+pub enum Made {
+    Lines,
+    Entries,
+}
+
+// The table after a row, and what is made of the row.
 pub struct Played {
     pub table: Table,
-    pub called: bool,
-    pub entry: [u8; records::SIZE],
-    pub buffer: [u8; 64],
-    pub len: usize,
+    pub line: Line,
 }
 
 fn no_buffer() -> [u8; 64]
@@ -35,59 +39,56 @@ fn no_buffer() -> [u8; 64]
 fn bytes_shown(call: Call, moved: u8) -> usize
     ensures { λ r. ⌜ r ≡ bytesShown call moved ⌝ }
 {
-    match call {
-        Call::Put(i) => 0,
-        Call::Show(i) => moved as usize,
-        Call::Send(i, j) => 0,
-        Call::Fetch(i, j) => 0,
-        Call::Add(i, n, p) => 0,
-        Call::Drop(i, n, p) => 0,
-        Call::Create(i, j, n) => 0,
-        Call::Release(i, j) => 0,
-        Call::Hand(i, j, n, p) => 0,
+    if let Call::Show(i) = call {
+        return moved as usize;
+    }
+    0
+}
+
+// What is made of a call: of its record, and of the first n bytes of its buffer.
+fn line_made(made: Made, entry: [u8; records::SIZE], buffer: [u8; 64], n: usize) -> Line
+    ensures { λ r. ⌜ r ≡ asLine (madeFrom made entry (take n buffer)) ⌝ }
+{
+    match made {
+        Made::Lines => print::call_line(entry, buffer, n),
+        Made::Entries => print::line_of(&entry),
     }
 }
 
 // Plays a call with the first n of some bytes.
-fn performed(table: Table, call: Call, bytes: [u8; 255], n: usize) -> Played
-    ensures { λ p. ⌜ p ≡ performed table call (take n bytes) ⌝ }
+fn performed(made: Made, table: Table, call: Call, bytes: [u8; 255], n: usize) -> Played
+    ensures { λ p. ⌜ p ≡ asPlayed (performed made table call (take n bytes)) ⌝ }
 {
     let mut buffer = no_buffer();
     let r = table.perform(call, handing::front(&bytes, n), &mut buffer);
     let next = r.table;
     let answer = r.answer;
     let entry = answer.entry;
-    let len = bytes_shown(call, entry[4]);
+    let line = line_made(made, entry, buffer, bytes_shown(call, entry[4]));
     Played {
         table: next,
-        called: true,
-        entry: entry,
-        buffer: buffer,
-        len: len,
+        line: line,
     }
 }
 
 fn unplayed(table: Table) -> Played
-    ensures { λ p. ⌜ p ≡ unplayed table ⌝ }
+    ensures { λ p. ⌜ p ≡ asPlayed ([], table) ⌝ }
 {
-    let buffer = no_buffer();
+    let line = print::line_of(b"");
     Played {
         table: table,
-        called: false,
-        entry: [0u8; records::SIZE],
-        buffer: buffer,
-        len: 0,
+        line: line,
     }
 }
 
-// Plays the call of a row; one that is none leaves the table as it is.
-fn play(table: Table, row: CallRow) -> Played
-    ensures { λ p. ⌜ p ≡ played table row ⌝ }
+// Plays the call of a row; of one that is none nothing is made, and the table stays as it is.
+fn play(made: Made, table: Table, row: CallRow) -> Played
+    ensures { λ p. ⌜ p ≡ asPlayed (played made table row) ⌝ }
 {
     let read = row.read;
     let bytes = row.bytes;
     match read {
-        CallRead::Call(c) => performed(table, c, bytes, row.len),
+        CallRead::Call(c) => performed(made, table, c, bytes, row.len),
         CallRead::Bad => unplayed(table),
     }
 }
@@ -102,39 +103,13 @@ fn behind(text: &[u8], end: usize) -> usize
     end
 }
 
-// What is made of the calls: a printed line of each, or its record.
-pub enum Form {
-    Lines,
-    Records,
-}
-
-// What is made of a call in a form: of its record, and of the first n bytes of its buffer.
-fn made(form: Form, entry: [u8; records::SIZE], buffer: [u8; 64], n: usize) -> Line
-    ensures { λ r. ⌜ r ≡ asLine (madeOf form entry (take n buffer)) ⌝ }
-{
-    match form {
-        Form::Lines => print::call_line(entry, buffer, n),
-        Form::Records => print::line_of(&entry),
-    }
-}
-
-// What is made of a row; nothing of one that is no call.
-fn piece(form: Form, called: bool, entry: [u8; records::SIZE], buffer: [u8; 64], n: usize) -> Line
-    ensures { λ r. ⌜ r ≡ asLine (pieceWith form called entry (take n buffer)) ⌝ }
-{
-    if called {
-        return made(form, entry, buffer, n);
-    }
-    print::line_of(b"")
-}
-
 // How many bytes are made of a row at most.
-fn most(form: Form) -> usize
-    ensures { λ r. ⌜ r ≡ mostOf form ⌝ }
+fn most(made: Made) -> usize
+    ensures { λ r. ⌜ r ≡ mostOf made ⌝ }
 {
-    match form {
-        Form::Lines => 162,
-        Form::Records => records::SIZE,
+    match made {
+        Made::Lines => 162,
+        Made::Entries => records::SIZE,
     }
 }
 
@@ -142,12 +117,12 @@ fn most(form: Form) -> usize
 pub fn first_at(text: &[u8]) -> usize
     ensures { λ r. ⌜ r ≡ firstAt (now (text .entry)) ⌝ }
 {
-    text::next_line(text, load::calls_at(text))
+    text::next_line(text, textblocks::calls_at(text))
 }
 
-// A part of a text's calls, played: the table after them, the place of the next line, and how many bytes of a lent buffer
+// A chunk of a text's calls, played: the table after them, the place of the next line, and how many bytes of a lent buffer
 // they take. All were played where that place is the text's end.
-pub struct Part {
+pub struct CallsChunk {
     pub table: Table,
     pub at: usize,
     pub len: usize,
@@ -155,26 +130,25 @@ pub struct Part {
 
 // Plays the calls of a text from a place and a table on. What is made of them goes to the front of a lent buffer, as long as
 // the most that can be made of a row has room there.
-pub fn play_calls(text: &[u8], from: usize, start: Table, form: Form, out: &mut [u8]) -> Part
-    ensures { λ r. ⌜ r ≡ asPart (chunk (callPieces (now (text .entry)) form) (length (now (out .entry))) (from, start)) ⌝ }
-    ensures { λ _. ⌜ now (out .exit) ≡ filled (chunk (callPieces (now (text .entry)) form) (length (now (out .entry))) (from, start) .0) (now (out .entry)) ⌝ }
+pub fn play_calls(text: &[u8], from: usize, start: Table, made: Made, out: &mut [u8]) -> CallsChunk
+    ensures { λ r. ⌜ r ≡ asCallsChunk (chunk (callPieces (now (text .entry)) made) (length (now (out .entry))) (from, start)) ⌝ }
+    ensures { λ _. ⌜ now (out .exit) ≡ filled (chunk (callPieces (now (text .entry)) made) (length (now (out .entry))) (from, start) .0) (now (out .entry)) ⌝ }
 {
-    let columns = load::call_columns(text);
-    let room = most(form);
+    let columns = textblocks::call_columns_in(text);
+    let room = most(made);
     let mut table = start;
     let mut at = from;
     let mut n = 0;
     while at < text.len() && room <= out.len() - n {
         let end = text::line_end(text, at);
-        let p = play(table, callrows::call_row(columns, &text[at..end]));
-        let entry = p.entry;
-        let buffer = p.buffer;
-        n = print::append(piece(form, p.called, entry, buffer, p.len), out, n);
+        let p = play(made, table, callrows::call_row(columns, &text[at..end]));
+        let line = p.line;
+        n = chunks::append(line, out, n);
         let next = p.table;
         table = next;
         at = behind(text, end);
     }
-    Part {
+    CallsChunk {
         table: table,
         at: at,
         len: n,

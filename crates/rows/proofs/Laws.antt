@@ -16,13 +16,14 @@ use Rattle.rules.proofs.Facts.{and-left, and-right}
 use Rattle.label.specs.declared.Label.{Label}
 use Rattle.entity.specs.declared.Entity.{Entity}
 use Rattle.block.specs.Block.{padded}
-use Rattle.text.specs.declared.Number.the-variants as Number
-use Rattle.text.specs.declared.Tags.{Tags}
-use Rattle.text.specs.declared.Size.the-variants as Size
-use Rattle.text.specs.Bytes.{decimalOf, hexSetOf, dataOf}
+use Rattle.values.specs.declared.Number.the-variants as Number
+use Rattle.values.specs.declared.Tags.{Tags}
+use Rattle.values.specs.declared.Size.the-variants as Size
+use Rattle.values.specs.Values.{decimalOf, hexSetOf, dataOf}
 use Rattle.text.specs.Lines.{fieldsIn, fieldAt}
-use Rattle.text.specs.Answers.{asNumber, asTags, asData, room, splitOf, fieldBy}
-use Rattle.text.proofs.Laws.{length-room}
+use Rattle.values.specs.Answers.{asNumber, asTags, asData, dataBytes}
+use Rattle.text.specs.Split.{splitOf, fieldBy}
+use Rattle.values.proofs.Laws.{length-bytes}
 use Rattle.text.proofs.Fields.{count-is, field-is}
 use Rattle.text.specs.Options.{_>>=_}
 use Rattle.rows.specs.declared.EntityColumns.{EntityColumns}
@@ -67,11 +68,11 @@ take-replicate zero m v h = refl
 take-replicate (suc n) zero v h = absurd (omega arith)
 take-replicate (suc n) (suc m) v h = ap (λ (l : List ℕ). v ∷ l) (take-replicate n m v (omega arith))
 
-room-block : (bs : List ℕ) → length bs ≤ 64 → padded (room bs) ≡ padded bs
-unfolding padded room
-room-block bs h =
+bytes-block : (bs : List ℕ) → length bs ≤ 64 → padded (dataBytes bs) ≡ padded bs
+unfolding padded dataBytes
+bytes-block bs h =
     let e : 64 ≡ length bs + (64 - length bs) = omega arith in
-    let z : 64 - length (room bs) ≡ 0 = omega (arith, length-room bs (omega arith)) in
+    let z : 64 - length (dataBytes bs) ≡ 0 = omega (arith, length-bytes bs (omega arith)) in
     let zs : List ℕ = replicate (255 - length bs) 0 in
     let t : take 64 (bs ++ zs) ≡ bs ++ replicate (64 - length bs) 0 =
     ap (λ (k : ℕ). take k (bs ++ zs)) e ∙ take-append-add bs zs (64 - length bs) ∙ ap (λ (l : List ℕ). bs ++ l) (take-replicate (64 - length bs) (255 - length bs) 0 (omega arith)) in
@@ -86,7 +87,7 @@ formed-short e h = leb-true (e .len) 64 (and-left (leb (e .len) 64) _ (and-right
 module _ (k : ℕ) (bs : List ℕ) where
   formed-said : (e : Entity) → e .len ≡ length bs → (t : Bool) → entityFormed e ≡ t
       → entityRowWith (cond t (Placed.At k e) Placed.Bad) (asData (some bs)) ≡ asEntityRow (cond t (some (record { slot = k; entity = e; content = bs })) none)
-  formed-said e l true h = rw (room-block bs (omega (arith, formed-short e h)))
+  formed-said e l true h = rw (bytes-block bs (omega (arith, formed-short e h)))
   formed-said e l false h = refl
 
   read-said : (nine : Bool) (o : Option Entity) → ((e : Entity) → o ≡ some e → e .len ≡ length bs)

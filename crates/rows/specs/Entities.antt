@@ -13,7 +13,8 @@ use Rattle.entity.specs.declared.Entity.{Entity}
 use Rattle.entity.specs.Entity.{bare}
 use Rattle.block.specs.Block.{noBlock, padded}
 use Rattle.text.specs.Ascii.{ascii}
-use Rattle.text.specs.Bytes.{eqBytes, decimalOf, hexSetOf, dataOf}
+use Rattle.text.specs.Bytes.{eqBytes}
+use Rattle.values.specs.Values.{decimalOf, hexSetOf, dataOf}
 use Rattle.text.specs.Lines.{columnOf, fieldAt}
 use Rattle.text.specs.Options.{_>>=_}
 use Rattle.rows.specs.declared.EntityColumns.{EntityColumns}

@@ -1,4 +1,4 @@
--- Document 01, 'The text': the names of the columns of each block.
+-- Document 01, 'The text': the names of the columns of the entities and of the groups.
 -- Assumes nothing.
 use Prim.Native.Nat.{ℕ}
 use mathlib.Core.List.{List}

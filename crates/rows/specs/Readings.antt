@@ -8,13 +8,13 @@ use Rattle.label.specs.declared.Label.{Label}
 use Rattle.label.specs.Tags.{empty}
 use Rattle.entity.specs.declared.Entity.{Entity}
 use Rattle.block.specs.Block.{noBlock, padded}
-use Rattle.text.specs.declared.Number.{Number}
-use Rattle.text.specs.declared.Number.the-variants as Number
-use Rattle.text.specs.declared.Tags.{Tags}
-use Rattle.text.specs.declared.Tags.the-variants as Tags
-use Rattle.text.specs.declared.Size.{Size}
-use Rattle.text.specs.declared.Size.the-variants as Size
-use Rattle.text.specs.declared.Data.{Data}
+use Rattle.values.specs.declared.Number.{Number}
+use Rattle.values.specs.declared.Number.the-variants as Number
+use Rattle.values.specs.declared.Tags.{Tags}
+use Rattle.values.specs.declared.Tags.the-variants as Tags
+use Rattle.values.specs.declared.Size.{Size}
+use Rattle.values.specs.declared.Size.the-variants as Size
+use Rattle.values.specs.declared.Data.{Data}
 use Rattle.rows.specs.Entities.{entityFormed}
 use Rattle.rows.specs.declared.EntityRead.{EntityRead}
 use Rattle.rows.specs.declared.EntityRead.the-variants as EntityRead

@@ -8,10 +8,10 @@ ghost use Rattle.rows.specs.Readings.{isSet, setIn, entityWith, lengthIn
 use entity::Entity;
 use label::Label;
 use rules::Kind;
-use text::Data;
-use text::Number;
-use text::Size;
-use text::Tags;
+use values::Data;
+use values::Number;
+use values::Size;
+use values::Tags;
 
 // The columns of the entities, found in their line of names.
 pub struct EntityColumns {
@@ -26,13 +26,13 @@ pub struct EntityColumns {
     pub content: usize,
 }
 
-// An entity by its columns.
+// The entity of a line, by its kind, its length and its sets, or nothing.
 pub enum EntityRead {
     Entity(Entity),
     Bad,
 }
 
-// A slot, and the entity in it.
+// A slot and the entity in it, or nothing.
 pub enum Placed {
     At(u8, Entity),
     Bad,
@@ -75,7 +75,7 @@ pub fn entity_columns(line: &[u8]) -> EntityColumns
     }
 }
 
-fn kind_of(f: &[u8]) -> Kind
+fn kind_named(f: &[u8]) -> Kind
     ensures { λ r. ⌜ r ≡ kindNamed (now (f .entry)) ⌝ }
 {
     if text::same(f, b"item") {
@@ -136,7 +136,7 @@ fn entity_with(
     }
 }
 
-fn is_formed(e: Entity) -> bool
+fn entity_formed(e: Entity) -> bool
     ensures { λ r. ⌜ r ≡ entityFormed e ⌝ }
 {
     !e.is_free() & e.is_formed()
@@ -164,7 +164,7 @@ fn placed_with(nine: bool, slot: Number, size: Size, read: EntityRead) -> Placed
     let EntityRead::Entity(e) = read else {
         return Placed::Bad;
     };
-    if nine & is_formed(e) {
+    if nine & entity_formed(e) {
         Placed::At(k, e)
     } else {
         Placed::Bad
@@ -211,19 +211,22 @@ fn entity_by(
 ) -> EntityRow
     ensures { λ r. ⌜ r ≡ asEntityRow (entityBy nine (now (slot .entry)) (now (kind .entry)) (now (sec .entry)) (now (int .entry)) (now (sa .entry)) (now (sd .entry)) (now (ia .entry)) (now (id .entry)) (now (content .entry))) ⌝ }
 {
-    let data = text::data_field(content, 64);
+    let data = values::data_field(content, 64);
     let size = data.size;
     let read = entity_with(
-        kind_of(kind),
+        kind_named(kind),
         length_in(size),
-        text::hex_set(sec),
-        text::hex_set(int),
-        text::hex_set(sa),
-        text::hex_set(sd),
-        text::hex_set(ia),
-        text::hex_set(id),
+        values::hex_set(sec),
+        values::hex_set(int),
+        values::hex_set(sa),
+        values::hex_set(sd),
+        values::hex_set(ia),
+        values::hex_set(id),
     );
-    entity_row_with(placed_with(nine, text::decimal(slot, 31), size, read), data)
+    entity_row_with(
+        placed_with(nine, values::decimal(slot, 31), size, read),
+        data,
+    )
 }
 
 // The entity of a line, by its columns.

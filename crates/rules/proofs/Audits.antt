@@ -17,7 +17,7 @@ use Rattle.rules.specs.Refusals.{allow, _if_else_, first, step}
 use Rattle.rules.specs.Record.{answer, visible, recordsIn, shownOf, audit}
 use Rattle.rules.specs.Runs.{final, trace, records}
 use Rattle.rules.specs.Laws.{OrderLaws}
-use Rattle.rules.specs.Audits.{joined, size, recordAt, shownTo, AuditByNumber, isFor, recordsFor, RunsAudited}
+use Rattle.rules.specs.Audits.{joined, size, nthRecord, shownTo, AuditByNumber, isFor, recordsFor, RunsAudited}
 use Rattle.rules.proofs.Facts.{iff}
 use Rattle.rules.proofs.ByNumber.{no-program, one-or-99}
 use Rattle.rules.proofs.Refused.{filled-rest}
@@ -33,7 +33,7 @@ multiple n m = iff (eqb (n / m * m) n) (eqb (n % m) 0)
 module _ (A : Labels) (l : A .Label) where
   -- what the record at place k adds
   abbrev adds : List ℕ → ℕ → List ℕ
-  adds list k = cond (visible A l (recordAt A list k)) (recordAt A list k) []
+  adds list k = cond (visible A l (nthRecord A list k)) (nthRecord A list k) []
 
   -- the records from the second on are those of the rest
   next : (list : List ℕ) (k : ℕ) → adds list (suc k) ≡ adds (drop (size A) list) k

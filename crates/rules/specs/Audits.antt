@@ -27,12 +27,12 @@ module _ (A : Labels) where
   size = 8 + A .width
 
   -- the record at place k of a list
-  abbrev pub recordAt : List ℕ → ℕ → List ℕ
-  recordAt list k = take size (drop (k * size) list)
+  abbrev pub nthRecord : List ℕ → ℕ → List ℕ
+  nthRecord list k = take size (drop (k * size) list)
 
   -- the records of the list whose need is within l, in order
   abbrev pub shownTo : A .Label → List ℕ → List ℕ
-  shownTo l list = joined (length list / size) (λ k. cond (visible A l (recordAt list k)) (recordAt list k) [])
+  shownTo l list = joined (length list / size) (λ k. cond (visible A l (nthRecord list k)) (nthRecord list k) [])
 
 module _ {A : Labels} (T : Tables A) where
   -- An audit checks 99, 1, 12, 13

@@ -1,6 +1,6 @@
 -- The fields of a line one after the other, the column of a name, and the field in a column.
 -- Assumes nothing.
-use mathlib.Core.Path.{_≡_, refl, sym, ap, ap₂, _∙_}
+use mathlib.Core.Path.{_≡_, refl, sym, ap, _∙_}
 use mathlib.Core.Bool.{Bool, true, false, cond}
 use mathlib.Core.Logic.{_⊎_, inl, inr}
 use mathlib.Core.List.{List, [], _∷_}
@@ -14,40 +14,8 @@ use lib.Seq.{take-all, take-nil, length-take-le, drop-drop, getD-set-same, getD-
 use borrow.Author.Tests.{lt-ltb, le-ltb, le-leb, lt-leb}
 use Rattle.text.specs.Bytes.{eqBytes, indexOf}
 use Rattle.text.specs.Lines.{ahead, fieldsIn, fieldAt, columnOf, hasNames}
-use Rattle.text.specs.Answers.{noStarts, startsFrom, splitOf, fieldBy}
-use Rattle.text.proofs.Laws.{index-here, index-next, index-le}
-
--- a line's first field and those after it
-abbrev Fields : List ℕ → Type 0
-Fields s = indexOf 32 s < length s → fieldsIn s ≡ take (indexOf 32 s) s ∷ fieldsIn (drop (suc (indexOf 32 s)) s)
-
-more-by : (b : ℕ) (bs : List ℕ) (t : Bool) → eqb b 32 ≡ t → Fields bs → Fields (b ∷ bs)
-unfolding fieldsIn ahead
-more-by b bs true e r h = rw (index-here 32 b bs e, e)
-more-by b bs false e r h =
-    let k : suc (indexOf 32 bs) < suc (length bs) = rw (index-next 32 b bs e) at h in
-    rw (index-next 32 b bs e, e, r (omega arith))
-
-pub fields-more : (s : List ℕ) → Fields s
-fields-more [] h = absurd (omega arith)
-fields-more (b ∷ bs) h = more-by b bs (eqb b 32) refl (fields-more bs) h
-
-abbrev Field : List ℕ → Type 0
-Field s = length s ≤ indexOf 32 s → fieldsIn s ≡ s ∷ []
-
-field-by : (b : ℕ) (bs : List ℕ) (t : Bool) → eqb b 32 ≡ t → Field bs → Field (b ∷ bs)
-unfolding fieldsIn ahead
-field-by b bs true e r h =
-    let k : suc (length bs) ≤ 0 = rw (index-here 32 b bs e) at h in
-    absurd (omega arith)
-field-by b bs false e r h =
-    let k : suc (length bs) ≤ suc (indexOf 32 bs) = rw (index-next 32 b bs e) at h in
-    rw (e, r (omega arith))
-
-pub fields-one : (s : List ℕ) → Field s
-unfolding fieldsIn
-fields-one [] h = refl
-fields-one (b ∷ bs) h = field-by b bs (eqb b 32) refl (fields-one bs) h
+use Rattle.text.specs.Split.{noStarts, startsFrom, splitOf, fieldBy}
+use Rattle.text.proofs.Laws.{index-le, less-suc}
 
 -- the fields after a line's first
 restOf : List ℕ → List (List ℕ)
@@ -61,15 +29,15 @@ rest-none : (s : List ℕ) → length s ≤ indexOf 32 s → restOf s ≡ []
 unfolding restOf
 rest-none s h = rw (le-ltb _ _ h)
 
-first-by : (s : List ℕ) → (indexOf 32 s < length s) ⊎ (length s ≤ indexOf 32 s) → fieldsIn s ≡ take (indexOf 32 s) s ∷ restOf s
-first-by s (inl h) = fields-more s h ∙ rw (rest-more s h)
-first-by s (inr h) = fields-one s h ∙ rw (rest-none s h, take-all (indexOf 32 s) s h)
-
-split : (a b : ℕ) → (b < a) ⊎ (a ≤ b)
-split a b = elim (decLe a b) [ yes p ↦ inr p | no q ↦ inl (omega arith) ]
-
+-- a line's first field and those after it
 fields-first : (s : List ℕ) → fieldsIn s ≡ take (indexOf 32 s) s ∷ restOf s
-fields-first s = first-by s (split (length s) (indexOf 32 s))
+unfolding fieldsIn ahead restOf indexOf
+fields-first [] = refl
+fields-first (b ∷ bs) = go (eqb b 32) refl (fields-first bs)
+  where
+    go : (t : Bool) → eqb b 32 ≡ t → fieldsIn bs ≡ take (indexOf 32 bs) bs ∷ restOf bs → fieldsIn (b ∷ bs) ≡ take (indexOf 32 (b ∷ bs)) (b ∷ bs) ∷ restOf (b ∷ bs)
+    go true e r = rw (e, lt-ltb 0 (length (b ∷ bs)) (omega arith))
+    go false e r = rw (e, less-suc (indexOf 32 bs) (length bs), r)
 
 -- ---- the column of a name
 
@@ -125,7 +93,7 @@ module _ (row : List ℕ) (at i : ℕ) (h : at ≤ length row) (e : i ≡ indexO
   from-rest (inr k) = rest-none (drop at row) (omega (arith, length-drop at row)) ∙ sym (from-none row (at + i + 1) (omega arith))
 
   pub from-more : fieldsFrom row at ≡ take i (drop at row) ∷ fieldsFrom row (at + i + 1)
-  from-more = from-some row at h ∙ fields-first (drop at row) ∙ rw (← e, from-rest (split (length row - at) i))
+  from-more = from-some row at h ∙ fields-first (drop at row) ∙ rw (← e, from-rest (elim (decLe (length row - at) i) [ yes p ↦ inr p | no q ↦ inl (omega arith) ]))
 
   pub from-length : length (take i (drop at row)) ≡ i
   from-length = length-take-le i (drop at row) (omega (arith, index-le 32 (drop at row)))

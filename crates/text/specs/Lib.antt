@@ -1,5 +1,5 @@
 pub mod Ascii
 pub mod Bytes
 pub mod Lines
-pub mod Answers
+pub mod Split
 pub mod Options

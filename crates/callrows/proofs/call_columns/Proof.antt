@@ -12,4 +12,4 @@ returns c = λ i. record { call = c .before .before .before .before .before .bef
 pub call-columns-spec : {M : Type 1} → statement M
 call-columns-spec =
     tie.close
-    (tie.spec (λ c. search needs) (λ c κs. search needs) (λ c. search needs) (λ c κs. search needs) (λ c. search needs) (λ c κs. search needs) (λ c. search needs) (λ c κs. search needs) (λ c. search needs) (λ c κs. search needs) (λ c. search needs) (λ c κs. search needs) returns)
+    (tie.spec (λ c. search needs) (λ _ _. tt) (λ c. search needs) (λ _ _. tt) (λ c. search needs) (λ _ _. tt) (λ c. search needs) (λ _ _. tt) (λ c. search needs) (λ _ _. tt) (λ c. search needs) (λ _ _. tt) returns)

@@ -1,7 +1,6 @@
 use mathlib.Core.Path.{ap, _∙_}
 use Rattle.callrows.specs.Calls.{asCallRow}
 use Rattle.callrows.proofs.Laws.{row-call}
-use borrow.Author.Needs.{needs}
 use Rattle.callrows.proofs.call_row.Statement.{statement}
 use Rattle.callrows.proofs.call_row.Tie as tie
 
@@ -16,4 +15,4 @@ returns c =
 pub call-row-spec : {M : Type 1} → statement M
 call-row-spec =
     tie.close
-    (tie.spec (λ c κs. search needs) (λ c κs. search needs) (λ c κs. search needs) (λ c κs. search needs) (λ c κs. search needs) (λ c κs. search needs) (λ c κs. search needs) (λ c κs. search needs) returns)
+    (tie.spec (λ _ _. tt) (λ _ _. tt) (λ _ _. tt) (λ _ _. tt) (λ _ _. tt) (λ _ _. tt) (λ _ _. tt) (λ _ _. tt) returns)

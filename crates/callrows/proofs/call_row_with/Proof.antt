@@ -18,4 +18,4 @@ returns-3 c = rw (not-false (c .before .before .before .before .before .args .go
 pub call-row-with-spec : {M : Type 1} → statement M
 call-row-with-spec =
     tie.close
-    (tie.spec (λ c κs. search needs) returns (λ c. search needs) (λ c. search needs) (λ c κs. search needs) returns-2 returns-3)
+    (tie.spec (λ _ _. tt) returns (λ c. search needs) (λ c. search needs) (λ _ _. tt) returns-2 returns-3)

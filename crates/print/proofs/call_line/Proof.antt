@@ -1,56 +1,40 @@
 use mathlib.Core.Path.{_≡_, ap, _∙_}
-use mathlib.Core.List.{List, [], _∷_, _++_}
-use Prim.Native.Nat.{ℕ, _+_}
-use native.Mathlib.Omega.{arith}
-use lib.ListN.{length, length-take}
+use mathlib.Core.List.{List, [], _∷_, _++_, append-assoc}
+use Prim.Native.Nat.{ℕ}
+use lib.ListN.{length, length-append, length-take}
 use denote.Ref.{now}
+use native.Mathlib.Omega.{arith}
 use Rattle.print.specs.Lines.{callLine, dataText, hexText, asLine}
-use Rattle.print.proofs.Laws.{data-most, length-hex, left-start, left-more, left-end}
+use Rattle.print.proofs.Laws.{data-most, length-hex, with-line, with-len, line-len}
 use borrow.Author.Needs.{needs}
 use Rattle.print.proofs.call_line.Statement.{statement}
 use Rattle.print.proofs.call_line.Tie as tie
 
 -- `print::call_line` meets its contract. Assumes nothing.
 
-bytes-into-requires : tie.Need-bytes-into-requires
-bytes-into-requires c κs = let n = c .before .before .before .before .before .before .before .args in omega (arith, c .before .before .before .hex-into .ensures .1, length-hex (n .t1), c .before .before .before .before .before .before .before .good)
+with-hex-requires : tie.Need-with-hex-requires
+with-hex-requires c κs = omega (arith, line-len [] (c .before .empty .ensures), c .before .before .good)
 
-data-into-requires : tie.Need-data-into-requires
-data-into-requires c κs = let f = c .before in
-    let n = c .before .before .before .before .before .before .before .before .before .before .before .before in
-    let b : length (n .args .t2) ≡ 64 = omega (arith, n .good) in
-    omega (arith, f .before .before .before .bytes-into .ensures .1, c .before .before .before .before .before .before .before .before .hex-into .ensures .1, length-hex (n .args .t1), n .good, data-most (now (f .front .result)) (omega (arith, ap length (f .front .ensures .0), length-take (n .args .n) (n .args .t2))))
-
-bytes-into-requires-2 : tie.Need-bytes-into-requires-2
-bytes-into-requires-2 c κs = let f = c .before .before .before .before .before in
-    let n = c .before .before .before .before .before .before .before .before .before .before .before .before .before .before .before .before in
-    let b : length (n .args .t2) ≡ 64 = omega (arith, n .good) in
-    omega (arith, c .before .before .before .data-into .ensures .1, f .before .before .before .bytes-into .ensures .1, c .before .before .before .before .before .before .before .before .before .before .before .before .hex-into .ensures .1, length-hex (n .args .t1), n .good, data-most (now (f .front .result)) (omega (arith, ap length (f .front .ensures .0), length-take (n .args .n) (n .args .t2))))
+with-data-requires : tie.Need-with-data-requires
+with-data-requires c κs =
+    let a = c .before .before .before .before .before .args in
+    let h = hexText (a .t1) in
+    omega (arith, with-len (c .before .before .before .before .empty .result) (h ++ (32 ∷ [])) (c .before .before .with-hex .ensures), line-len [] (c .before .before .before .before .empty .ensures), length-append h (32 ∷ []), length-hex (a .t1), c .before .before .before .before .before .good, data-most (now (c .front .result)) (omega (arith, c .before .before .before .before .before .good, ap length (c .front .ensures .0), length-take (a .n) (a .t2))))
 
 returns : tie.Need-returns
 unfolding callLine
-returns c = let d = c .before in
-    let t = c .before .before .before .before .before in
-    let f = c .before .before .before .before .before .before .before in
-    let p = c .before .before .before .before .before .before .before .before .before .before in
-    let h = c .before .before .before .before .before .before .before .before .before .before .before .before .before .before in
-    let z = c .before .before .before .before .before .before .before .before .before .before .before .before .before .before .before .before .before in
-    let n = z .before in
-    let s = now (f .front .result) in
-    let b : length (n .args .t2) ≡ 64 = omega (arith, n .good) in
-    let l =
-    left-more (10 ∷ []) []
-    (left-more (dataText s) (10 ∷ [])
-    (left-more (32 ∷ []) (dataText s ++ (10 ∷ []))
-    (left-more (hexText (n .args .t1)) (32 ∷ (dataText s ++ (10 ∷ []))) (left-start (callLine (n .args .t1) s) _ (z .blank .ensures)) (h .hex-into .ensures .0) (h .hex-into .ensures .1))
-    (p .bytes-into .ensures .0) (p .bytes-into .ensures .1))
-    (t .data-into .ensures .0) (t .data-into .ensures .1))
-    (d .bytes-into2 .ensures .0) (d .bytes-into2 .ensures .1) in
-    left-end l
-    (omega (arith, l .len, d .bytes-into2 .ensures .1, t .data-into .ensures .1, p .bytes-into .ensures .1, h .hex-into .ensures .1, length-hex (n .args .t1), n .good, data-most s (omega (arith, ap length (f .front .ensures .0), length-take (n .args .n) (n .args .t2)))))
-    ∙ ap (λ (x : List ℕ). asLine (callLine (n .args .t1) x)) (f .front .ensures .0)
+returns c =
+    let a = c .before .before .before .before .before .before .args in
+    let f = c .before .front in
+    let s = now (f .result) in
+    let h = hexText (a .t1) in
+    let k : length (h ++ (32 ∷ [])) ≡ 33 = omega (arith, length-append h (32 ∷ []), length-hex (a .t1), c .before .before .before .before .before .before .good) in
+    let d = data-most s (omega (arith, c .before .before .before .before .before .before .good, ap length (f .ensures .0), length-take (a .n) (a .t2))) in
+    with-line (h ++ (32 ∷ [])) (dataText s ++ (10 ∷ [])) (c .with-data .ensures) (with-line [] (h ++ (32 ∷ [])) (c .before .before .before .with-hex .ensures) (c .before .before .before .before .before .empty .ensures) (omega arith)) (omega (arith, length-append (dataText s) (10 ∷ [])))
+    ∙ ap asLine (append-assoc h (32 ∷ []) (dataText s ++ (10 ∷ [])))
+    ∙ ap (λ (x : List ℕ). asLine (callLine (a .t1) x)) (f .ensures .0)
 
 pub call-line-spec : {M : Type 1} → statement M
 call-line-spec =
     tie.close
-    (tie.spec (λ c κs. search needs) (λ c. search needs) (λ c. search needs) (λ c κs. search needs) (λ c. search needs) (λ c. search needs) bytes-into-requires (λ c. search needs) (λ c κs. search needs) (λ c. search needs) data-into-requires (λ c. search needs) (λ c. search needs) bytes-into-requires-2 returns)
+    (tie.spec (λ c κs. search needs) (λ c. search needs) with-hex-requires (λ c. search needs) (λ c κs. search needs) with-data-requires returns)

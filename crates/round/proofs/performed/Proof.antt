@@ -1,11 +1,13 @@
-use mathlib.Core.Bool.{true}
-use mathlib.Core.Path.{ap₂, _∙_}
+use mathlib.Core.Path.{ap, ap₂, _∙_}
 use mathlib.Core.List.{List}
 use Prim.Native.Nat.{ℕ}
-use borrow.Author.Needs.{needs}
+use lib.ListN.{take}
 use Rattle.label.specs.Calls.{callWith}
 use Rattle.monitor.specs.Calls.{reply, bufferAfter}
+use Rattle.print.specs.Lines.{asLine}
+use Rattle.round.specs.Played.{madeFrom}
 use Rattle.round.proofs.Calls.{playedFrom, performed-is}
+use borrow.Author.Needs.{needs}
 use Rattle.round.proofs.performed.Statement.{statement}
 use Rattle.round.proofs.performed.Tie as tie
 
@@ -13,18 +15,17 @@ use Rattle.round.proofs.performed.Tie as tie
 
 returns : tie.Need-returns
 returns c =
-    let p = c .before .before .before .before .before in
-    let f = p .before .before in
-    let n = f .before .before in
-    let a = n .before .args in
-    let r = p .perform .result in
-    (λ z. record { table = r .table; called = true; entry = r .answer .entry; buffer = p .perform .last .1 .1 .1 .0; len = c .bytes-shown .ensures z })
-    ∙ ap₂ (playedFrom (a .call))
-    (p .perform .ensures .0 ∙ ap₂ (λ (l b : List ℕ). reply (a .table) (callWith (a .call) l b)) (f .front .ensures .0) (n .no-buffer .ensures))
-    (p .perform .ensures .1 ∙ ap₂ (bufferAfter (a .table) (a .call)) (f .front .ensures .0) (n .no-buffer .ensures))
-    ∙ performed-is (a .table) (a .call) _
+    let a = c .before .before .before .before .before .before .before .before .before .before .before .args in
+    let r = c .before .before .before .before .before .before .perform .result in
+    let b = c .before .before .before .before .before .before .perform .last .1 .1 .1 .0 in
+    let l = c .line-made .ensures ∙ ap (λ (n : ℕ). asLine (madeFrom (a .made) (r .answer .entry) (take n b))) (c .before .bytes-shown .ensures) in
+    (λ z. record { table = r .table; line = l z })
+    ∙ ap₂ (playedFrom (a .made) (a .call))
+    (c .before .before .before .before .before .before .perform .ensures .0 ∙ ap₂ (λ (l b : List ℕ). reply (a .table) (callWith (a .call) l b)) (c .before .before .before .before .before .before .before .before .front .ensures .0) (c .before .before .before .before .before .before .before .before .before .before .no-buffer .ensures))
+    (c .before .before .before .before .before .before .perform .ensures .1 ∙ ap₂ (bufferAfter (a .table) (a .call)) (c .before .before .before .before .before .before .before .before .front .ensures .0) (c .before .before .before .before .before .before .before .before .before .before .no-buffer .ensures))
+    ∙ performed-is (a .table) (a .made) (a .call) _
 
 pub performed-spec : {M : Type 1} → statement M
 performed-spec =
     tie.close
-    (tie.spec (λ _ _. tt) (λ c. search needs) (λ _ _. tt) (λ c. search needs) (λ _ _. tt) (λ c. search needs) (λ _ _. tt) returns)
+    (tie.spec (λ c κs. search needs) (λ c. search needs) (λ c κs. search needs) (λ c. search needs) (λ c κs. search needs) (λ c. search needs) (λ c κs. search needs) (λ c κs. search needs) returns)

@@ -12,4 +12,4 @@ returns c = λ i. record { slot = c .before .before .before .before .before .bef
 pub entity-columns-spec : {M : Type 1} → statement M
 entity-columns-spec =
     tie.close
-    (tie.spec (λ c. search needs) (λ c κs. search needs) (λ c. search needs) (λ c κs. search needs) (λ c. search needs) (λ c κs. search needs) (λ c. search needs) (λ c κs. search needs) (λ c. search needs) (λ c κs. search needs) (λ c. search needs) (λ c κs. search needs) (λ c. search needs) (λ c κs. search needs) (λ c. search needs) (λ c κs. search needs) (λ c. search needs) (λ c κs. search needs) returns)
+    (tie.spec (λ c. search needs) (λ _ _. tt) (λ c. search needs) (λ _ _. tt) (λ c. search needs) (λ _ _. tt) (λ c. search needs) (λ _ _. tt) (λ c. search needs) (λ _ _. tt) (λ c. search needs) (λ _ _. tt) (λ c. search needs) (λ _ _. tt) (λ c. search needs) (λ _ _. tt) (λ c. search needs) (λ _ _. tt) returns)

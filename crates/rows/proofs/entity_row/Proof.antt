@@ -1,7 +1,6 @@
 use mathlib.Core.Path.{ap, _∙_}
 use Rattle.rows.specs.Entities.{asEntityRow}
 use Rattle.rows.proofs.Laws.{row-entity}
-use borrow.Author.Needs.{needs}
 use Rattle.rows.proofs.entity_row.Statement.{statement}
 use Rattle.rows.proofs.entity_row.Tie as tie
 
@@ -16,4 +15,4 @@ returns c =
 pub entity-row-spec : {M : Type 1} → statement M
 entity-row-spec =
     tie.close
-    (tie.spec (λ c κs. search needs) (λ c κs. search needs) (λ c κs. search needs) (λ c κs. search needs) (λ c κs. search needs) (λ c κs. search needs) (λ c κs. search needs) (λ c κs. search needs) (λ c κs. search needs) (λ c κs. search needs) (λ c κs. search needs) returns)
+    (tie.spec (λ _ _. tt) (λ _ _. tt) (λ _ _. tt) (λ _ _. tt) (λ _ _. tt) (λ _ _. tt) (λ _ _. tt) (λ _ _. tt) (λ _ _. tt) (λ _ _. tt) (λ _ _. tt) returns)

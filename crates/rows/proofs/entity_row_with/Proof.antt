@@ -13,4 +13,4 @@ returns-2 c = simp (c .block-of .ensures, c .before .before .placed .given .1)
 pub entity-row-with-spec : {M : Type 1} → statement M
 entity-row-with-spec =
     tie.close
-    (tie.spec (λ c. search needs) (λ c. search needs) (λ c κs. search needs) returns (λ c κs. search needs) returns-2)
+    (tie.spec (λ c. search needs) (λ c. search needs) (λ _ _. tt) returns (λ _ _. tt) returns-2)

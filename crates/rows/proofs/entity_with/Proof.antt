@@ -1,5 +1,4 @@
 use Rattle.rows.specs.declared.EntityRead.the-variants as EntityRead
-use borrow.Author.Needs.{needs}
 use Rattle.rows.proofs.entity_with.Statement.{statement}
 use Rattle.rows.proofs.entity_with.Tie as tie
 
@@ -17,4 +16,4 @@ returns-2 c = rw (simp (c .before .before .before .before .before .before .befor
 pub entity-with-spec : {M : Type 1} → statement M
 entity-with-spec =
     tie.close
-    (tie.spec (λ c κs. search needs) (λ c κs. search needs) (λ c κs. search needs) (λ c κs. search needs) (λ c κs. search needs) (λ c κs. search needs) (λ c κs. search needs) (λ c κs. search needs) (λ c κs. search needs) (λ c κs. search needs) (λ c κs. search needs) (λ c κs. search needs) returns returns-2)
+    (tie.spec (λ _ _. tt) (λ _ _. tt) (λ _ _. tt) (λ _ _. tt) (λ _ _. tt) (λ _ _. tt) (λ _ _. tt) (λ _ _. tt) (λ _ _. tt) (λ _ _. tt) (λ _ _. tt) (λ _ _. tt) returns returns-2)

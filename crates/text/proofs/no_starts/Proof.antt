@@ -1,5 +1,5 @@
 use mathlib.Core.Path.{refl}
-use Rattle.text.specs.Answers.{noStarts}
+use Rattle.text.specs.Split.{noStarts}
 use Rattle.text.proofs.no_starts.Statement.{statement}
 use Rattle.text.proofs.no_starts.Tie as tie
 
