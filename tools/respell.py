@@ -147,7 +147,7 @@ def names():
     for path in files('crates/*/src/*.rt'):
         write(path, WORD.sub(lambda m: camel.get(m.group(0), m.group(0)), read(path)))
     for path in files('README.md', 'docs/*.md'):
-        write(path, re.sub(r'`[^`\n]*`', lambda m: WORD.sub(lambda w: found.get(w.group(0), w.group(0)), m.group(0)), read(path)))
+        write(path, re.sub(r'`([^`\n]*)`', lambda m: '`' + respelled(m.group(1), found) + '`', read(path)))
     with open(MAP, 'w', encoding='utf-8') as f:
         json.dump(found, f, ensure_ascii=False, indent=0, sort_keys=True)
     print('%d names respelled' % len(found))
