@@ -1,4 +1,6 @@
 // The answer to a call: its outcome and its record, by what the call saw and what it does.
+#![tactic(auto)]
+
 ghost use Rattle.std.specs.Prelude.{◌≡◌, []};
 ghost use Rattle.label.specs.Calls.{call_with};
 ghost use Rattle.records.specs.Record.{fields_given};

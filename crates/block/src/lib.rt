@@ -1,4 +1,6 @@
 // The content area: a block of 64 bytes for each of the 32 slots.
+#![tactic(auto)]
+
 ghost use Rattle.std.specs.Prelude.{◌≡◌, min, drop};
 ghost use Rattle.block.specs.Block.{all_zero, no_block, padded, block_at, filled_front};
 

@@ -1,4 +1,6 @@
 // One line of the calls.
+#![tactic(auto)]
+
 ghost use Rattle.std.specs.Prelude.{◌≡◌, cond};
 ghost use Rattle.std.proofs.Math.Option.{none};
 ghost use Rattle.text.specs.Lines.{fields_in, names_once};

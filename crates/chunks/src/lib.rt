@@ -1,4 +1,6 @@
 // Output in chunks: lines, one behind another, in lent buffers.
+#![tactic(auto)]
+
 ghost use Rattle.std.specs.Prelude.{◌≡◌, ◌+◌, leb, length, take};
 ghost use Rattle.rules.specs.Record.{filled};
 ghost use Rattle.chunks.specs.Chunks.{appended, appended_to, chunk};

@@ -1,4 +1,6 @@
 // Entities of the hub: what a slot holds but for its content.
+#![tactic(auto)]
+
 ghost use Rattle.std.specs.Prelude.{◌≡◌, cond};
 ghost use Rattle.rules.specs.Table.{is_free, is_item, is_program, flow, held, parts_formed};
 ghost use Rattle.rules.specs.Calls.{new_kind, add_right, drop_right, right_at, grant, relabel, created, with_rights};

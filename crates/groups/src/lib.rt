@@ -1,4 +1,6 @@
 // Conflict groups: whether who holds a label keeps to each of them.
+#![tactic(auto)]
+
 ghost use Rattle.std.specs.Prelude.{◌≡◌, take};
 ghost use Rattle.rules.specs.Table.{keeps_each};
 ghost use Rattle.label.specs.Words.{words};

@@ -1,4 +1,6 @@
 // What is handed back of a lent buffer: its filled front part.
+#![tactic(auto)]
+
 ghost use Rattle.std.specs.Prelude.{◌≡◌, take};
 
 use rules::Outcome;

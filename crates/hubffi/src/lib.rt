@@ -1,5 +1,7 @@
 // The monitor for C and Rust: the nine calls, the audit and loading on the struct of a table, which goes in and comes back
 // by value. A `&[u8]` is a pointer and then a length there; include/hub.h declares what stands here.
+#![tactic(auto)]
+
 ghost use Rattle.std.specs.Prelude.{◌≡◌};
 ghost use Rattle.rules.specs.Calls.{put, show, send, fetch, add_tag, drop_tag, create, release, hand};
 ghost use Rattle.monitor.specs.Table.{empty_table};

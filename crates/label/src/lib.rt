@@ -1,4 +1,6 @@
 // A label: a set of tags 0 to 63, tag n at weight 2 to the n.
+#![tactic(auto)]
+
 ghost use Rattle.std.specs.Prelude.{◌≡◌, cond};
 ghost use Rattle.label.specs.Tags.{empty, has_tag, subset_of, equal_of, is_empty, union_of, with_tag, without_tag, with_digit, common_of, keeps_to, bytes_of, from_bytes};
 

@@ -1,4 +1,6 @@
 // The hub's table as C has it, a struct of numbers: the table of a struct, and the struct of a table.
+#![tactic(auto)]
+
 ghost use Rattle.std.specs.Prelude.{◌≡◌, map};
 ghost use Rattle.label.specs.Tags.{label_of};
 ghost use Rattle.layout.specs.Struct.{kind_numbered, kind_number, len_of, slot_entity, slot_as, bits_of, table_of, struct_of};

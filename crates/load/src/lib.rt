@@ -1,4 +1,6 @@
 // Loading a table from its text: 14 to 17.
+#![tactic(auto)]
+
 ghost use Rattle.std.specs.Prelude.{◌≡◌, [], ◌≤◌, length, drop};
 ghost use Rattle.text.specs.Lines.{lines_of};
 ghost use Rattle.load.specs.Tables.{row_in, groups_from, empty_with, none_stored, breaks_at, fill, groups_in, entities_in};

@@ -1,4 +1,6 @@
 // The lines that the programs print.
+#![tactic(auto)]
+
 ghost use Rattle.std.specs.Prelude.{◌≡◌, [], ◌∷◌, ◌++◌, ◌+◌, ◌*◌, ◌<◌, ◌≤◌, length, take};
 ghost use Rattle.rules.specs.Record.{record_size};
 ghost use Rattle.label.specs.Words.{words};

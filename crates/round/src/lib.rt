@@ -1,4 +1,6 @@
 // A round: the calls of a text, played one by one.
+#![tactic(auto)]
+
 ghost use Rattle.std.specs.Prelude.{◌≡◌, cond, [], ◌+◌, ltb, length, take};
 ghost use Rattle.rules.specs.Record.{filled};
 ghost use Rattle.callrows.specs.Calls.{show_buffer};

@@ -1,4 +1,6 @@
 // One line of the entities; the name of the groups.
+#![tactic(auto)]
+
 ghost use Rattle.std.specs.Prelude.{◌≡◌};
 ghost use Rattle.block.specs.Block.{padded};
 ghost use Rattle.text.specs.Lines.{fields_in, names_once};

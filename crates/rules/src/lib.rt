@@ -1,3 +1,5 @@
+#![tactic(auto)]
+
 // What a slot holds. Free comes first, as the value that definitions give to a read past an array's end.
 #[derive(Drop)]
 pub enum Kind {

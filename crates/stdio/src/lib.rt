@@ -2,6 +2,8 @@
 //
 // What is read and written is no fact of the logic. A call that fails because a signal interrupts it counts as failed: the
 // programs catch no signal, so that none does.
+#![tactic(auto)]
+
 ghost use Rattle.std.specs.Prelude.{length};
 ghost use Rattle.stdio.specs.Input.{Within};
 

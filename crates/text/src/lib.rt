@@ -1,4 +1,6 @@
 // The text of a table and its calls: byte strings, lines and fields.
+#![tactic(auto)]
+
 ghost use Rattle.std.specs.Prelude.{◌≡◌};
 ghost use Rattle.text.specs.Bytes.{eq_bytes, index_of};
 ghost use Rattle.text.specs.Lines.{line_end, line_at, next_line, fields_in, column_of, names_once};

@@ -1,4 +1,6 @@
 // The blocks of a text: where each stands, and the first line that does not have the form.
+#![tactic(auto)]
+
 ghost use Rattle.std.specs.Prelude.{◌≡◌, ◌+◌, ◌≤◌, length, drop};
 ghost use Rattle.text.specs.Lines.{lines_of, fields_in};
 ghost use Rattle.textblocks.specs.Blocks.{Inside, past_empty, groups_at, calls_at, names_at, row_good, is_header, is_last, rows_bad, block_bad, or_else, bad_line};

@@ -1,4 +1,6 @@
 // What a field says: a decimal number, a set of tags, or data.
+#![tactic(auto)]
+
 ghost use Rattle.std.specs.Prelude.{[], ◌≡◌};
 ghost use Rattle.std.proofs.Math.Option.{none, some};
 ghost use Rattle.label.specs.Tags.{empty};
