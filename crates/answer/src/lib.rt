@@ -11,14 +11,14 @@ use entity::Entity;
 use rules::{Call, Outcome};
 
 // What a call comes to: its outcome, and its record.
-#[derive(Drop)]
+#[derive(Clone, Copy)]
 pub struct Answer {
     pub outcome: Outcome,
     pub entry: [u8; records::SIZE],
 }
 
 // What a call does where it is allowed: what it writes to which slot, and how many bytes it moves.
-#[derive(Drop)]
+#[derive(Clone, Copy)]
 pub struct Effect {
     pub slot: u8,
     pub entity: Entity,

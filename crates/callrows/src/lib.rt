@@ -12,7 +12,7 @@ use rules::Call;
 use values::{Data, Number, Size};
 
 // The columns of the calls, found in their line of names.
-#[derive(Drop)]
+#[derive(Clone, Copy)]
 pub struct CallColumns {
     pub call: usize,
     pub caller: usize,
@@ -22,14 +22,14 @@ pub struct CallColumns {
     pub bytes: usize,
 }
 
-#[derive(Drop)]
+#[derive(Clone, Copy)]
 pub enum CallRead {
     Call(Call),
     Bad,
 }
 
 // Which fields of a line a call uses, beside the caller.
-#[derive(Drop)]
+#[derive(Clone, Copy)]
 pub struct Uses {
     pub other: bool,
     pub set: bool,
@@ -38,7 +38,7 @@ pub struct Uses {
 }
 
 // What a line of the calls says: a call, and the bytes put, the first `len` of some with zeros after them.
-#[derive(Drop)]
+#[derive(Clone, Copy)]
 pub struct CallRow {
     pub read: CallRead,
     pub len: usize,

@@ -38,7 +38,7 @@ pub fn append(line: Line, out: &mut [u8], n: usize) -> usize
 }
 
 // A chunk of a list's lines: the place of the next record, and how many bytes of a lent buffer they take.
-#[derive(Drop)]
+#[derive(Clone, Copy)]
 pub struct ListChunk {
     pub at: usize,
     pub len: usize,

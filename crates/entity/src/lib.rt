@@ -11,7 +11,7 @@ use label::Label;
 use rules::Kind;
 
 // What a slot holds but for its content: S, I, the rights to add to and drop from each, and the content's length.
-#[derive(Drop)]
+#[derive(Clone, Copy)]
 pub struct Entity {
     pub kind: Kind,
     pub sec: Label,

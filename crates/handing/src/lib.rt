@@ -6,7 +6,7 @@ ghost use Rattle.std.specs.Prelude.{◌≡◌, take};
 use rules::Outcome;
 
 // The filled front part of a lent buffer, and the outcome.
-#[derive(Drop)]
+#[derive(Clone, Copy)]
 pub struct Filled<'a> {
     pub part: &'a [u8],
     pub outcome: Outcome,

@@ -16,7 +16,7 @@ use rules::Outcome;
 
 // What a call hands back: the next table, the number returned, and the record.
 #[repr(C)]
-#[derive(Drop)]
+#[derive(Clone, Copy)]
 pub struct HubReply {
     pub table: HubTable,
     pub number: u8,
@@ -25,7 +25,7 @@ pub struct HubReply {
 
 // What an audit hands back: the number returned, and how many bytes of the buffer it filled.
 #[repr(C)]
-#[derive(Drop)]
+#[derive(Clone, Copy)]
 pub struct HubAudit {
     pub number: u8,
     pub len: usize,
@@ -33,7 +33,7 @@ pub struct HubAudit {
 
 // What loading hands back: the table, and 0 and line 0, or the number of the refusal and its line.
 #[repr(C)]
-#[derive(Drop)]
+#[derive(Clone, Copy)]
 pub struct HubLoaded {
     pub table: HubTable,
     pub number: u8,

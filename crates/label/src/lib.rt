@@ -4,7 +4,7 @@
 ghost use Rattle.std.specs.Prelude.{◌≡◌, cond};
 ghost use Rattle.label.specs.Tags.{empty, has_tag, subset_of, equal_of, is_empty, union_of, with_tag, without_tag, with_digit, common_of, keeps_to, bytes_of, from_bytes};
 
-#[derive(Drop)]
+#[derive(Clone, Copy)]
 pub struct Label {
     pub bits: u64,
 }

@@ -13,7 +13,7 @@ use rules::Kind;
 // What stands in a slot. The kind is 0 for a free slot, 1 for an item, 2 for a program; a table with another kind lacks the
 // form.
 #[repr(C)]
-#[derive(Drop)]
+#[derive(Clone, Copy)]
 pub struct HubSlot {
     pub kind: u8,
     pub sec: u64,
@@ -26,7 +26,7 @@ pub struct HubSlot {
 }
 
 #[repr(C)]
-#[derive(Drop)]
+#[derive(Clone, Copy)]
 pub struct HubTable {
     pub slots: [HubSlot; 32],
     pub content: [u8; 2048],

@@ -12,7 +12,7 @@ use values::Tags;
 
 // The table that the entities of a text are stored in; the first line whose slot an earlier one names, or 0; the first line
 // before it whose entity breaks a group, or 0.
-#[derive(Drop)]
+#[derive(Clone, Copy)]
 pub struct Stored {
     pub twice: usize,
     pub breaks: usize,
@@ -20,13 +20,13 @@ pub struct Stored {
 }
 
 // What loading comes to: accepted, or refused with a number and a line.
-#[derive(Drop)]
+#[derive(Clone, Copy)]
 pub enum Verdict {
     Accepted,
     Refused(u8, usize),
 }
 
-#[derive(Drop)]
+#[derive(Clone, Copy)]
 pub struct Loaded {
     pub verdict: Verdict,
     pub table: Table,

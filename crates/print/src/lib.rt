@@ -7,7 +7,7 @@ ghost use Rattle.label.specs.Words.{words};
 ghost use Rattle.print.specs.Lines.{digit_text, hex_text, data_text, decimal_text, call_line, record_line, refused_text, refused_line, refused_audit, line_size, line_with, as_line};
 
 // A line: the first len of some bytes. The longest is that of a record and 64 bytes shown.
-#[derive(Drop)]
+#[derive(Clone, Copy)]
 pub struct Line {
     pub bytes: [u8; 162],
     pub len: usize,

@@ -15,14 +15,14 @@ use print::Line;
 use rules::Call;
 
 // What is made of the calls: a printed line of each, or its record.
-#[derive(Drop)]
+#[derive(Clone, Copy)]
 pub enum Made {
     Lines,
     Entries,
 }
 
 // The table after a row, and what is made of the row.
-#[derive(Drop)]
+#[derive(Clone, Copy)]
 pub struct Played {
     pub table: Table,
     pub line: Line,
@@ -121,7 +121,7 @@ pub fn first_at(text: &[u8]) -> usize
 
 // A chunk of a text's calls, played: the table after them, the place of the next line, and how many bytes of a lent buffer
 // they take. All were played where that place is the text's end.
-#[derive(Drop)]
+#[derive(Clone, Copy)]
 pub struct CallsChunk {
     pub table: Table,
     pub at: usize,

@@ -14,7 +14,7 @@ use rules::Kind;
 use values::{Data, Number, Size, Tags};
 
 // The columns of the entities, found in their line of names.
-#[derive(Drop)]
+#[derive(Clone, Copy)]
 pub struct EntityColumns {
     pub slot: usize,
     pub kind: usize,
@@ -28,21 +28,21 @@ pub struct EntityColumns {
 }
 
 // The entity of a line, by its kind, its length and its sets, or nothing.
-#[derive(Drop)]
+#[derive(Clone, Copy)]
 pub enum EntityRead {
     Entity(Entity),
     Bad,
 }
 
 // A slot and the entity in it, or nothing.
-#[derive(Drop)]
+#[derive(Clone, Copy)]
 pub enum Placed {
     At(u8, Entity),
     Bad,
 }
 
 // What a line of the entities says, and the content as a block.
-#[derive(Drop)]
+#[derive(Clone, Copy)]
 pub struct EntityRow {
     pub placed: Placed,
     pub block: [u8; 64],

@@ -1,7 +1,7 @@
 #![tactic(auto)]
 
 // What a slot holds. Free comes first, as the value that definitions give to a read past an array's end.
-#[derive(Drop)]
+#[derive(Clone, Copy)]
 pub enum Kind {
     Free,
     Item,
@@ -9,7 +9,7 @@ pub enum Kind {
 }
 
 // What a call or an audit comes to: its work done, or one numbered refusal.
-#[derive(Drop)]
+#[derive(Clone, Copy)]
 pub enum Outcome {
     Allowed,
     Refused(u8),
@@ -17,7 +17,7 @@ pub enum Outcome {
 
 // The nine calls by what each names as one byte: the caller, then the other's slot, the set field and the tag, as far as it
 // uses them. The bytes put and the buffer lent stand beside it.
-#[derive(Drop)]
+#[derive(Clone, Copy)]
 pub enum Call {
     Put(u8),
     Show(u8),

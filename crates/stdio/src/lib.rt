@@ -11,7 +11,7 @@ use libc::{STDERR_FILENO, STDIN_FILENO, STDOUT_FILENO};
 
 // What reading came to: the whole input, in so many bytes at the buffer's front; a full buffer, behind which more may come;
 // or a read that failed.
-#[derive(Drop)]
+#[derive(Clone, Copy)]
 pub enum Input {
     End(usize),
     Full,

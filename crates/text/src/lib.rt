@@ -57,7 +57,7 @@ pub fn column(line: &[u8], name: &[u8]) -> usize
 }
 
 // Where the fields of a row start, the first 15, and where one more would; and how many there are.
-#[derive(Drop)]
+#[derive(Clone, Copy)]
 pub struct Starts {
     pub at: [usize; 16],
     pub count: usize,

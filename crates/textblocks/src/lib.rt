@@ -11,14 +11,14 @@ use rows::{EntityColumns, Placed};
 use values::Tags;
 
 // A place in a text, and the number of the line there.
-#[derive(Drop)]
+#[derive(Clone, Copy)]
 pub struct Place {
     pub at: usize,
     pub line: usize,
 }
 
 // A block of a text: the columns that its rows have. Groups have one.
-#[derive(Drop)]
+#[derive(Clone, Copy)]
 pub enum Block {
     Entities(EntityColumns),
     Groups,

@@ -10,28 +10,28 @@ ghost use Rattle.values.specs.Answers.{as_number, as_tags, as_data, no_bytes};
 use label::Label;
 
 // What a field of decimal digits says.
-#[derive(Drop)]
+#[derive(Clone, Copy)]
 pub enum Number {
     Value(u8),
     Bad,
 }
 
 // What a field of hexadecimal digits says.
-#[derive(Drop)]
+#[derive(Clone, Copy)]
 pub enum Tags {
     Set(Label),
     Bad,
 }
 
 // How many bytes a field of data holds.
-#[derive(Drop)]
+#[derive(Clone, Copy)]
 pub enum Size {
     Bytes(usize),
     Bad,
 }
 
 // What a field of data says: its bytes at the front, zeros after them.
-#[derive(Drop)]
+#[derive(Clone, Copy)]
 pub struct Data {
     pub size: Size,
     pub bytes: [u8; 255],

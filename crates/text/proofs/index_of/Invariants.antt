@@ -1,0 +1,16 @@
+use borrow.Author.Rules.{rules}
+use Prim.Native.Nat.{◌+◌, ◌≤◌, ◌-◌}
+use mathlib.Core.Path.{◌≡◌, sym, ◌∙◌}
+use lib.ListN.{length, drop}
+use native.Mathlib.Nat.{zero-add}
+use Rattle.text.specs.Bytes.{index_of}
+use Rattle.text.proofs.Laws.{index_hit, index_miss, index_end}
+use Rattle.text.proofs.index_of.Given as goal
+
+-- `text::index_of` meets its contract. Assumes nothing.
+
+abbrev pub invariant-loop-i : goal.invariant-loop-i
+invariant-loop-i l = (l.i ≤ length l.s) × (l.i + index_of l.b (drop l.i l.s) ≡ index_of l.b l.s)
+
+abbrev pub decreases-loop-i : goal.decreases-loop-i
+decreases-loop-i l = length l.s - l.i

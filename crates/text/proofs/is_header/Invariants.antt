@@ -1,0 +1,20 @@
+use Prim.Native.Nat.{◌+◌, ◌≤◌, ◌-◌}
+use mathlib.Core.Path.{◌≡◌, refl, sym, ap, ◌∙◌}
+use native.Mathlib.Omega.{arith}
+use lib.ListN.{length}
+use lib.Seq.{length-take-le}
+use borrow.Author.Tests.{eq-eqb, ne_eqb}
+use Rattle.text.specs.declared.Starts.{Starts}
+use Rattle.text.specs.Lines.{fields_in, has_names, names_once}
+use Rattle.text.proofs.Laws.{rest, index_le}
+use Rattle.text.proofs.Fields.{count_is, all_miss, all_last, all_next}
+use borrow.Author.Rules.{rules}
+use Rattle.text.proofs.is_header.Given as goal
+
+-- `text::is_header` meets its contract. The loop's invariant: the names that are left have their columns where all have. Assumes nothing.
+
+abbrev pub invariant-loop-n : goal.invariant-loop-n
+invariant-loop-n l = (length l.n ≤ length l.names) × (l.s.count ≡ length (fields_in l.line)) × (has_names (fields_in l.n) (fields_in l.line) ≡ names_once (fields_in l.names) (fields_in l.line))
+
+abbrev pub decreases-loop-n : goal.decreases-loop-n
+decreases-loop-n l = length l.n
