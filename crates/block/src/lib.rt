@@ -22,7 +22,7 @@ pub fn pad(bs: &[u8]) -> [u8; 64]
 {
     let mut out = empty();
     let n = at_most(bs.len(), 64);
-    bytes::copy(&bs[..n], &mut out);
+    copying::copy(&bs[..n], &mut out);
     out
 }
 
@@ -63,5 +63,5 @@ pub fn copy_front(block: [u8; 64], n: usize, out: &mut [u8])
     ensures { out.new ≡ filled_front block n out.old }
 {
     let m = at_most(at_most(n, 64), out.len());
-    bytes::copy(&block[..m], out);
+    copying::copy(&block[..m], out);
 }

@@ -23,7 +23,7 @@ fn append_bytes(src: &[u8], out: &mut [u8], n: usize) -> usize
     ensures { (out.new ≡ appended out.old n src.now) × (result ≡ appended_to out.old n src.now) }
 {
     if has_room(out.len(), n, src.len()) {
-        bytes::copy(src, &mut out[n..]);
+        copying::copy(src, &mut out[n..]);
         return n + src.len();
     }
     n

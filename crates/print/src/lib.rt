@@ -53,7 +53,7 @@ fn with_bytes(line: Line, src: &[u8]) -> Line
 {
     let mut bytes = line.bytes;
     let n = line.len;
-    bytes::copy(src, &mut bytes[n..]);
+    copying::copy(src, &mut bytes[n..]);
     Line {
         bytes: bytes,
         len: n + src.len(),

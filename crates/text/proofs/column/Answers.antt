@@ -23,11 +23,8 @@ pub returns-then-h-i : goal.returns-then-h-i
 returns-then-h-i c =
     let l = c.loop-h in omega (arith, column_none _ _ _ c.index_of-i.ensures (sym c.same.ensures ∙ c.if-same.false) c.if-h-i.true, l.invariant.1)
 
-pub loop-h-smaller : goal.loop-h-smaller
-loop-h-smaller c = omega (arith, c.h-1.given.2)
-
 pub loop-h-preserved : goal.loop-h-preserved
 loop-h-preserved c = let l = c.loop-h in (
-      omega (arith, c.h-1.given.2),
+      search rules,
       rw (rest l.h.now (c.index_of-i.result + 1)) (omega (arith, column_next _ _ _ c.index_of-i.ensures (sym c.same.ensures ∙ c.if-same.false) c.if-h-i.false, l.invariant.1)),
     )

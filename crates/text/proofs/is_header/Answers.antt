@@ -34,13 +34,10 @@ returns-then-s-column c = let l = c.loop-n in sym (all_miss _ _ _ c.index_of-i.e
 pub returns-then-n-i : goal.returns-then-n-i
 returns-then-n-i c = let l = c.loop-n in sym (all_last _ _ _ c.index_of-i.ensures (omega (arith, c.column.ensures, c.if-s-column.false, l.invariant.1)) c.if-n-i.true) ∙ l.invariant.2
 
-pub loop-n-smaller : goal.loop-n-smaller
-loop-n-smaller c = omega (arith, c.n-1.given.2)
-
 pub loop-n-preserved : goal.loop-n-preserved
 loop-n-preserved c =
     let l = c.loop-n in (
-      omega (arith, c.n-1.given.2),
+      search rules,
       l.invariant.1,
       rw (rest l.n.now (c.index_of-i.result + 1)) (sym (all_next _ _ _ c.index_of-i.ensures (omega (arith, c.column.ensures, c.if-s-column.false, l.invariant.1)) c.if-n-i.false) ∙ l.invariant.2),
     )

@@ -12,11 +12,11 @@ returns-then-text-at c = sym (line-none c.args.text.now c.args.at c.if-text-at.t
 pub slice_bounds-result-count : goal.slice_bounds-result-count
 slice_bounds-result-count c = let e = line_ends c.args.text.now c.args.at c.line_end-end.result (omega arith) c.line_end-end.ensures in omega arith
 
--- UNKNOWN ?slice-bounds-result-start
--- part-result-start c = let e = line_ends c.before.before.before.args.text.now c.before.before.before.args.at c.line-end.result (omega arith) c.line-end.ensures in omega arith
+pub slice_bounds-result-start : goal.slice_bounds-result-start
+slice_bounds-result-start c = let e = line_ends c.args.text.now c.args.at c.line_end-end.result (omega arith) c.line_end-end.ensures in omega arith
 
--- UNKNOWN ?slice-bounds-result-end
--- part-result-end c = let e = line_ends c.before.before.before.args.text.now c.before.before.before.args.at c.line-end.result (omega arith) c.line-end.ensures in omega arith
+pub slice_bounds-result-end-2 : goal.slice_bounds-result-end-2
+slice_bounds-result-end-2 c = let e = line_ends c.args.text.now c.args.at c.line_end-end.result (omega arith) c.line_end-end.ensures in omega arith
 
 pub returns : goal.returns
 returns c = line-part c.args.text.now c.args.at c.line_end-end.result c.line_end-end.ensures

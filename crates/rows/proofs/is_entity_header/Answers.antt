@@ -1,0 +1,9 @@
+use Rattle.text.specs.Lines.{fields_in, ahead}
+use borrow.Author.Rules.{rules}
+use Rattle.rows.proofs.is_entity_header.Goals as goal
+
+-- `rows::is_entity_header` meets its contract. Assumes nothing.
+
+pub returns : goal.returns
+unfolding fields_in ahead
+returns c = c.is_header.ensures

@@ -1,0 +1,20 @@
+use Prim.Native.Nat.{◌≤◌, ◌-◌, ◌+◌, ◌*◌}
+use mathlib.Core.Path.{◌≡◌, refl, sym, ap, ◌∙◌}
+use native.Mathlib.Omega.{arith}
+use lib.Dec.{leb}
+use lib.ListN.{length, drop}
+use borrow.Author.Tests.{ltb-false}
+use Rattle.rules.proofs.Facts.{neither_right}
+use Rattle.values.specs.Values.{decimal_from}
+use Rattle.values.specs.Answers.{as_number}
+use Rattle.values.proofs.Laws.{dec_step, dec_bad, dec_end}
+use borrow.Author.Rules.{rules}
+use Rattle.values.proofs.digits.Given as goal
+
+-- `values::digits` meets its contract. The loop's invariant: the digits that are left, after the number so far, say what all say. Assumes nothing.
+
+abbrev pub invariant-loop-i : goal.invariant-loop-i
+invariant-loop-i l = (l.i ≤ length l.s) × (l.n ≤ l.max) × (l.top ≡ l.max) × (decimal_from l.max l.n (drop l.i l.s) ≡ decimal_from l.max 0 l.s)
+
+abbrev pub decreases-loop-i : goal.decreases-loop-i
+decreases-loop-i l = length l.s - l.i
