@@ -10,18 +10,19 @@ use Rattle.textblocks.specs.Blocks.{is_header, names_at}
 use Rattle.textblocks.proofs.Laws.{next_is, block_none, block_other, block_names}
 use borrow.Author.Rules.{rules}
 use Rattle.textblocks.proofs.block_bad.Goals as goal
+use Rattle.textblocks.proofs.block_bad.Goals.{After-is_header}
 
 -- `textblocks::block_bad` meets its contract. Assumes nothing.
 
-module _ (c : tie.After-is-header) where
+module _ (c : After-is_header) where
   abbrev text : List ℕ
-  text = c.before.before.before.before.before.args.text.now
+  text = c.args.text.now
 
-  whole : line_end text c.before.before.before.before.before.args.p.at < length text
-  whole = rw c.before.before.before.line-end.ensures at c.before.before.if1.false
+  whole : line_end text c.args.p.at < length text
+  whole = rw c.line_end-end.ensures at c.if-text-end.false
 
-  named : c.is-header.result ≡ is_header c.before.before.before.before.before.args.block (names_at text c.before.before.before.before.before.args.p)
-  named = c.is-header.ensures ∙ ap (λ (l : List ℕ). is_header c.before.before.before.before.before.args.block (fields_in l)) c.before.line-at.ensures
+  named : c.is_header.result ≡ is_header c.args.block (names_at text c.args.p)
+  named = c.is_header.ensures ∙ ap (λ (l : List ℕ). is_header c.args.block (fields_in l)) c.line_at.ensures
 
 pub returns-then-text-end : goal.returns-then-text-end
 returns-then-text-end c =
@@ -30,7 +31,7 @@ returns-then-text-end c =
 
 pub returns-then-not-is_header : goal.returns-then-not-is_header
 returns-then-not-is_header c =
-    let a = c.args in sym (block_other a.block _ a.text.now a.p (whole c) (sym (named c) ∙ c.if-not-is_header.true))
+    let a = c.args in sym (block_other a.block _ a.text.now a.p (whole (goal.at.returns-then-not-is_header c).After-is_header) (sym (named (goal.at.returns-then-not-is_header c).After-is_header) ∙ c.if-not-is_header.true))
 
 pub rows_bad-requires : goal.rows_bad-requires
 rows_bad-requires c =
@@ -40,4 +41,4 @@ rows_bad-requires c =
 pub returns : goal.returns
 returns c =
     let a = c.args in let e = c.line_end-end in c.rows_bad.ensures ∙ rw (next_is a.text.now a.p.at e.result e.ensures c.if-text-end.false)
-    (sym (block_names a.block _ a.text.now a.p (whole c) (sym (named c) ∙ c.if-not-is_header.false)))
+    (sym (block_names a.block _ a.text.now a.p (whole (goal.at.returns c).After-is_header) (sym (named (goal.at.returns c).After-is_header) ∙ c.if-not-is_header.false)))

@@ -16,11 +16,11 @@ use Rattle.textblocks.proofs.row_good.Goals as goal
 
 pub returns-in-At : goal.returns-in-At
 returns-in-At c =
-    let b = c.block-1.given in rw b.1 (sym (ap (λ (o : Option EntitySaid). is_some o) (row_some c.entity_row-r.result _ _ (entity_of b.0.0 (fields_in c.args.row.now)) c.entity_row-r.ensures c.in-At.is).is))
+    rw c.in-Entities.is (sym (ap (λ (o : Option EntitySaid). is_some o) (row_some c.entity_row-r.result _ _ (entity_of c.in-Entities.columns (fields_in c.args.row.now)) c.entity_row-r.ensures c.in-At.is).is))
 
 pub returns-in-Bad : goal.returns-in-Bad
 returns-in-Bad c =
-    let b = c.block-1.given in rw b.1 (sym (ap (λ (o : Option EntitySaid). is_some o) (row_none c.entity_row-r.result (entity_of b.0.0 (fields_in c.args.row.now)) c.entity_row-r.ensures c.in-Bad.is)))
+    rw c.in-Entities.is (sym (ap (λ (o : Option EntitySaid). is_some o) (row_none c.entity_row-r.result (entity_of c.in-Entities.columns (fields_in c.args.row.now)) c.entity_row-r.ensures c.in-Bad.is)))
 
 pub returns-in-Set : goal.returns-in-Set
 returns-in-Set c =
@@ -32,8 +32,8 @@ returns-in-Bad-set c =
 
 pub returns-in-Call : goal.returns-in-Call
 returns-in-Call c =
-    let b = c.block-in-Calls-1.given in rw b.1 (sym (call-some c.call_row-r.result _ (call_of b.0.0 (fields_in c.args.row.now)) c.call_row-r.ensures c.in-Call.is))
+    rw c.in-Calls.is (sym (call-some c.call_row-r.result _ (call_of c.in-Calls.columns (fields_in c.args.row.now)) c.call_row-r.ensures c.in-Call.is))
 
 pub returns-in-Bad-read : goal.returns-in-Bad-read
 returns-in-Bad-read c =
-    let b = c.block-in-Calls-1.given in rw b.1 (sym (call_none c.call_row-r.result (call_of b.0.0 (fields_in c.args.row.now)) c.call_row-r.ensures c.in-Bad-read.is))
+    rw c.in-Calls.is (sym (call_none c.call_row-r.result (call_of c.in-Calls.columns (fields_in c.args.row.now)) c.call_row-r.ensures c.in-Bad-read.is))
