@@ -1,6 +1,0 @@
-pub mod Share
-pub mod Again
-pub mod Types
-pub mod Common
-pub mod HandingInto
-pub mod HandingIntoPlain
