@@ -5,4 +5,3 @@ pub mod Finish
 pub mod Written
 pub mod ShowLaws
 pub mod AuditLaws
-pub mod TableType
