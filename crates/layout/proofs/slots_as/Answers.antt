@@ -1,0 +1,18 @@
+use Prim.Native.Nat.{ℕ, ◌-◌}
+use mathlib.Core.Path.{◌≡◌, refl}
+use native.Mathlib.Omega.{arith}
+use borrow.Author.Rules.{rules}
+use Rattle.rules.proofs.Facts.{length_mapped}
+use Rattle.layout.specs.Struct.{slot_as}
+use Rattle.layout.proofs.Lists.{Mapped, mapped_more, mapped_all}
+use Rattle.layout.proofs.slots_as.Goals as goal
+
+pub loop-i-init : goal.loop-i-init
+loop-i-init c = (omega arith, search (rules, length_mapped), refl, refl)
+
+pub loop-i-preserved : goal.loop-i-preserved
+loop-i-preserved c =
+    mapped_more slot_as 32 c.args.entities c.loop-i.out c.loop-i.i _ _ c.loop-i.invariant (omega arith) c.slot_as.ensures
+
+pub returns : goal.returns
+returns c = mapped_all slot_as 32 c.args.entities c.loop-i.out c.loop-i.i c.loop-i.invariant (omega arith)

@@ -1,0 +1,18 @@
+use Prim.Native.Nat.{ℕ, ◌+◌, ◌*◌, ◌≤◌, ◌-◌}
+use mathlib.Core.Path.{◌≡◌, refl, sym, ap₂, ◌∙◌}
+use mathlib.Core.List.{List, [], ◌∷◌, ◌++◌}
+use lib.ListN.{length, drop, set, length-set, length-append}
+use lib.Seq.{sets}
+use native.Mathlib.Omega.{arith}
+use Rattle.print.specs.Lines.{hex_text}
+use Rattle.print.proofs.Laws.{hex_end, hex-step, length-hex, sets_append}
+use borrow.Author.Rules.{rules}
+use Rattle.print.proofs.with_hex.Given as goal
+
+-- `print::with_hex` meets its contract. Assumes nothing.
+
+abbrev pub invariant-loop-i : goal.invariant-loop-i
+invariant-loop-i l = (l.i ≤ length l.src) × (l.k ≡ l.initial.k + l.i * 2) × (length l.bytes ≡ length l.initial.bytes) × (sets l.bytes l.k (hex_text (drop l.i l.src)) ≡ sets l.initial.bytes l.initial.k (hex_text l.src))
+
+abbrev pub decreases-loop-i : goal.decreases-loop-i
+decreases-loop-i l = length l.src - l.i
