@@ -8,8 +8,7 @@ use Rattle.layout.specs.declared.HubTable.{HubTable}
 use Rattle.hubffi.specs.declared.HubReply.{HubReply}
 use Rattle.layout.specs.Struct.{struct_of}
 use Rattle.hubffi.specs.Answers.{answered}
-use Rattle.hubffi.proofs.answered.Statement.{statement}
-use Rattle.hubffi.proofs.answered.Tie as tie
+use Rattle.hubffi.proofs.answered.Goals as goal
 
 -- `hubffi::answered` meets its contract. Assumes nothing.
 
@@ -22,15 +21,10 @@ by-outcome t s r o e h i = record {
   entry = r.answer.entry;
 }
 
-returns : tie.Need-returns
-returns c =
-    let a = c.before.before.before.before.before.before.args in
-    by-outcome a.t c.struct-of.result a.r Allowed c.before.enum_told.given.1 c.struct-of.ensures
+pub returns-in-Allowed : goal.returns-in-Allowed
+returns-in-Allowed c =
+    let a = c.args in by-outcome a.t c.struct_of.result a.r Allowed c.in-Allowed.is c.struct_of.ensures
 
-returns-2 : tie.Need-returns-2
-returns-2 c =
-    let a = c.before.before.before.before.before.before.args in
-    by-outcome a.t a.t a.r (Refused c.before.outcome.given.0.0) c.before.outcome.given.1 refl
-
-pub answered-spec : {M : Type 1} → statement M
-answered-spec = tie.close (tie.spec (λ c. search rules) (λ _ _. tt) (λ c. search rules) returns returns-2)
+pub returns-in-Refused : goal.returns-in-Refused
+returns-in-Refused c =
+    let a = c.args in by-outcome a.t a.t a.r (Refused c.in-Refused.n) c.in-Refused.is refl

@@ -1,0 +1,15 @@
+use borrow.Author.Rules.{rules}
+use Rattle.monitor.proofs.AuditLaws.{len_room}
+use Rattle.layout.specs.Struct.{table_of}
+use Rattle.hubffi.specs.Answers.{audit_answer}
+use Rattle.hubffi.proofs.hub_audit.Goals as goal
+
+-- `hubffi::hub_audit` meets its contract. Assumes nothing.
+
+pub returns : goal.returns
+unfolding audit_answer
+returns c =
+    let a = c.args in record {
+      value = simp (c.number_of.ensures, c.audit_into-v.ensures.value, c.audit_len-n.ensures, len_room (table_of a.t) a.caller a.list.now a.out.now, c.table_of-table.ensures);
+      out_after = rw (← c.table_of-table.ensures) c.audit_into-v.ensures.out_after;
+    }
