@@ -4,11 +4,8 @@ use Rattle.std.specs.Prelude.{ℕ, ◌-◌, List, ◌++◌, length, replicate}
 use Rattle.std.proofs.Math.Option.{Option, none, some}
 use Rattle.label.specs.declared.Label.{Label}
 use Rattle.values.specs.declared.Number.{Number}
-use Rattle.values.specs.declared.Number.TheVariants as Number
 use Rattle.values.specs.declared.Tags.{Tags}
-use Rattle.values.specs.declared.Tags.TheVariants as Tags
 use Rattle.values.specs.declared.Size.{Size}
-use Rattle.values.specs.declared.Size.TheVariants as Size
 use Rattle.values.specs.declared.Data.{Data}
 
 abbrev pub as_number : Option ℕ → Number

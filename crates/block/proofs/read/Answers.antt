@@ -4,7 +4,6 @@ use mathlib.Core.List.{[]}
 use native.Mathlib.Omega.{arith}
 use lib.ListN.{length, drop, drop_of_length-le, length-drop}
 use lib.Seq.{take_all}
-use borrow.Author.Rules.{rules}
 use Rattle.block.specs.Block.{no_block, padded}
 use Rattle.block.proofs.Lists.{block_in, block_out}
 use Rattle.block.proofs.Padding.{padded-cut, padded_full, padded-none}

@@ -1,13 +1,8 @@
-use Prim.Native.Nat.{ℕ, ◌+◌, ◌*◌, ◌-◌, ◌≤◌, ◌<◌, min}
-use mathlib.Core.List.{List}
-use mathlib.Core.Path.{◌≡◌, sym, ap, ◌∙◌}
-use mathlib.Core.Bool.{Bool, ◌&&◌}
-use native.Mathlib.Omega.{arith}
-use lib.Dec.{eqb}
-use lib.ListN.{length, get_or, drop, drop_of_length-le}
-use borrow.Author.Rules.{rules}
-use Rattle.block.specs.Block.{all_zero, no_block, block_at}
-use Rattle.block.proofs.Lists.{zero_walk, and-more, and-all, block_size, block-get, block_out, drop-most, zero-drop}
+use Prim.Native.Nat.{◌+◌, ◌*◌, ◌-◌, ◌≤◌, ◌<◌, min}
+use mathlib.Core.Path.{◌≡◌}
+use mathlib.Core.Bool.{◌&&◌}
+use lib.ListN.{length, drop}
+use Rattle.block.specs.Block.{all_zero, block_at}
 use Rattle.block.proofs.zero_beyond.Given as goal
 
 -- `block::zero_beyond` meets its contract. The loop's invariant: what is known of the bytes passed, and the

@@ -1,4 +1,3 @@
-
 use Rattle.entity.proofs.free_entity.Goals as goal
 
 -- `entity::free_entity` meets its contract. Assumes nothing.

@@ -1,4 +1,3 @@
-
 use Rattle.entity.proofs.free_unless.Goals as goal
 
 -- `entity::free_unless` meets its contract. Assumes nothing.

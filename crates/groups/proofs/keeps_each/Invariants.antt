@@ -1,13 +1,7 @@
-use Prim.Native.Nat.{◌+◌, ◌-◌, min}
-use mathlib.Core.Path.{◌≡◌, refl, sym, ap, ◌∙◌}
-use mathlib.Core.Bool.{Bool, ◌&&◌}
-use native.Mathlib.Omega.{arith}
+use Prim.Native.Nat.{◌-◌, min}
+use mathlib.Core.Path.{◌≡◌}
 use lib.ListN.{length}
-use borrow.Author.Tests.{not-true, not-false}
-use borrow.Author.Rules.{rules}
-use Rattle.label.specs.Tags.{empty}
-use Rattle.rules.proofs.Facts.{length_mapped}
-use Rattle.groups.proofs.Groups.{left, left_more, left_none}
+use Rattle.groups.proofs.Groups.{left}
 use Rattle.groups.proofs.keeps_each.Given as goal
 
 -- `groups::keeps_each` meets its contract. The loop's invariant: the groups from g on decide. Assumes nothing.

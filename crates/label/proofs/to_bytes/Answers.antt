@@ -1,5 +1,4 @@
 use mathlib.Core.Path.{refl}
-use borrow.Author.Rules.{rules}
 use Rattle.label.specs.Tags.{bytes_of, bytes_in}
 use Rattle.label.proofs.to_bytes.Goals as goal
 

@@ -1,6 +1,5 @@
 use mathlib.Core.Path.{ap}
 use native.Mathlib.Omega.{arith}
-use borrow.Author.Rules.{rules}
 use Rattle.label.specs.Tags.{with_digit, digit_in, label_of}
 use Rattle.label.proofs.with_digit.Goals as goal
 

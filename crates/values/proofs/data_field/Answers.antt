@@ -1,7 +1,6 @@
 use mathlib.Core.Path.{sym, ◌∙◌}
 use borrow.Author.Tests.{eq-eqb, ne_eqb}
 use Rattle.values.specs.Values.{data_of}
-use borrow.Author.Rules.{rules}
 use Rattle.values.proofs.data_field.Goals as goal
 
 -- `values::data_field` meets its contract. Assumes nothing.

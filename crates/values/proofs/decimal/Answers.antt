@@ -1,7 +1,6 @@
 use mathlib.Core.Path.{◌∙◌}
 use borrow.Author.Tests.{eq-eqb, ne_eqb}
 use Rattle.values.specs.Values.{decimal_of}
-use borrow.Author.Rules.{rules}
 use Rattle.values.proofs.decimal.Goals as goal
 
 -- `values::decimal` meets its contract. Assumes nothing.

@@ -1,7 +1,6 @@
 use mathlib.Core.Path.{sym}
 use native.Mathlib.Omega.{arith}
 use Rattle.values.proofs.Laws.{nib_below, nib_digit, nib_between, nib_letter, nib_above}
-use borrow.Author.Rules.{rules}
 use Rattle.values.proofs.digit.Goals as goal
 
 -- `values::digit` meets its contract. Assumes nothing.

@@ -1,11 +1,9 @@
-use Prim.Native.Nat.{◌≤◌, ◌-◌, ◌+◌, ◌*◌}
-use mathlib.Core.Path.{◌≡◌, refl, sym, ap, ◌∙◌}
+use Prim.Native.Nat.{◌+◌, ◌*◌}
+use mathlib.Core.Path.{refl, sym, ap, ◌∙◌}
 use native.Mathlib.Omega.{arith}
 use lib.Dec.{leb}
-use lib.ListN.{length, drop}
 use borrow.Author.Tests.{ltb-false}
 use Rattle.rules.proofs.Facts.{neither_right}
-use Rattle.values.specs.Values.{decimal_from}
 use Rattle.values.specs.Answers.{as_number}
 use Rattle.values.proofs.Laws.{dec_step, dec_bad, dec_end}
 use borrow.Author.Rules.{rules}

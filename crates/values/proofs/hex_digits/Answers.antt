@@ -1,9 +1,5 @@
-use Prim.Native.Nat.{◌≤◌, ◌-◌}
-use mathlib.Core.Path.{◌≡◌, sym, ap, ◌∙◌}
+use mathlib.Core.Path.{sym, ap, ◌∙◌}
 use native.Mathlib.Omega.{arith}
-use lib.ListN.{length, drop}
-use Rattle.label.specs.Tags.{empty}
-use Rattle.values.specs.Values.{set_from}
 use Rattle.values.specs.Answers.{as_tags}
 use Rattle.values.proofs.Laws.{set_step, set_other, set_end}
 use borrow.Author.Rules.{rules}

@@ -1,12 +1,8 @@
 use Prim.Native.Nat.{◌≤◌, ◌-◌}
-use mathlib.Core.Path.{◌≡◌, sym, ap, ◌∙◌}
-use native.Mathlib.Omega.{arith}
+use mathlib.Core.Path.{◌≡◌}
 use lib.ListN.{length, drop}
 use Rattle.label.specs.Tags.{empty}
 use Rattle.values.specs.Values.{set_from}
-use Rattle.values.specs.Answers.{as_tags}
-use Rattle.values.proofs.Laws.{set_step, set_other, set_end}
-use borrow.Author.Rules.{rules}
 use Rattle.values.proofs.hex_digits.Given as goal
 
 -- `values::hex_digits` meets its contract. The loop's invariant: the digits that are left, after the set so far, say what all say. Assumes nothing.

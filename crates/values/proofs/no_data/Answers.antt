@@ -1,4 +1,3 @@
-
 use Rattle.values.proofs.no_data.Goals as goal
 
 -- `values::no_data` meets its contract. Assumes nothing.

@@ -1,4 +1,4 @@
-use Prim.Native.Nat.{ℕ, ◌<◌, ◌≤◌, ◌-◌, ◌*◌, ◌+◌}
+use Prim.Native.Nat.{ℕ, ◌<◌, ◌*◌, ◌+◌}
 use mathlib.Core.Path.{◌≡◌, refl, sym, ap, ◌∙◌}
 use mathlib.Core.Bool.{false, ◌||◌}
 use mathlib.Core.List.{[], ◌∷◌, ◌++◌}
@@ -8,8 +8,7 @@ use lib.ListN.{length, length-append, length-set}
 use borrow.Author.Tests.{leb-false}
 use Rattle.rules.proofs.Facts.{neither_left, neither_right}
 use Rattle.values.specs.Answers.{as_data}
-use Rattle.values.proofs.Laws.{pairs_end, pairs_odd, pairs_bad, pairs_step, bytes-none, bytes-more, length-bytes, Paired}
-use borrow.Author.Rules.{rules}
+use Rattle.values.proofs.Laws.{pairs_end, pairs_odd, pairs_bad, pairs_step, bytes-none, bytes-more, length-bytes}
 use Rattle.values.proofs.pairs.Goals as goal
 
 -- two digits, with room for their byte

@@ -1,15 +1,7 @@
-use Prim.Native.Nat.{ℕ, ◌<◌, ◌≤◌, ◌-◌, ◌*◌, ◌+◌}
-use mathlib.Core.Path.{◌≡◌, refl, sym, ap, ◌∙◌}
-use mathlib.Core.Bool.{false, ◌||◌}
-use mathlib.Core.List.{[], ◌∷◌, ◌++◌}
-use native.Mathlib.Omega.{arith}
-use lib.Dec.{leb}
-use lib.ListN.{length, length-append, length-set}
-use borrow.Author.Tests.{leb-false}
-use Rattle.rules.proofs.Facts.{neither_left, neither_right}
-use Rattle.values.specs.Answers.{as_data}
-use Rattle.values.proofs.Laws.{pairs_end, pairs_odd, pairs_bad, pairs_step, bytes-none, bytes-more, length-bytes, Paired}
-use borrow.Author.Rules.{rules}
+use Prim.Native.Nat.{◌≤◌, ◌-◌}
+use mathlib.Core.Path.{◌≡◌}
+use lib.ListN.{length}
+use Rattle.values.proofs.Laws.{Paired}
 use Rattle.values.proofs.pairs.Given as goal
 
 -- `values::pairs` meets its contract. The loop's invariant: the pairs that are left, after the bytes so far, say what all say. Assumes nothing.

@@ -1,4 +1,3 @@
-
 use Rattle.entity.proofs.Entity.create.Goals as goal
 
 -- `entity::Entity::create` meets its contract. Assumes nothing.

@@ -1,4 +1,3 @@
-
 use Rattle.entity.proofs.Entity.flows_to.Goals as goal
 
 -- `entity::Entity::flows_to` meets its contract. Assumes nothing.

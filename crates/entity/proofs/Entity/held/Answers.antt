@@ -1,4 +1,3 @@
-
 use Rattle.entity.proofs.Entity.held.Goals as goal
 
 -- `entity::Entity::held` meets its contract. Assumes nothing.

@@ -1,7 +1,6 @@
 use mathlib.Core.Path.{◌≡◌, refl, sym, ap}
 use mathlib.Core.Bool.{Bool, true, false, ◌&&◌}
 use lib.Dec.{leb}
-use borrow.Author.Rules.{rules}
 use Rattle.rules.specs.Table.{rightless}
 use Rattle.label.specs.Tags.{is_empty}
 use Rattle.label.specs.Words.{words}

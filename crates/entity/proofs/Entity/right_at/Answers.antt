@@ -1,4 +1,3 @@
-
 use Rattle.entity.proofs.Entity.right_at.Goals as goal
 
 -- `entity::Entity::right_at` meets its contract. Assumes nothing.

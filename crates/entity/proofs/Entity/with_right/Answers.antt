@@ -1,4 +1,3 @@
-
 use Rattle.entity.proofs.Entity.with_right.Goals as goal
 
 -- `entity::Entity::with_right` meets its contract. Assumes nothing.

@@ -1,4 +1,3 @@
-
 use Rattle.entity.proofs.Entity.with_tag.Goals as goal
 
 -- `entity::Entity::with_tag` meets its contract. Assumes nothing.

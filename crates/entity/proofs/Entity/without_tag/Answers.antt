@@ -1,4 +1,3 @@
-
 use Rattle.entity.proofs.Entity.without_tag.Goals as goal
 
 -- `entity::Entity::without_tag` meets its contract. Assumes nothing.
