@@ -1,9 +1,7 @@
-use Prim.Native.Nat.{◌+◌, ◌≤◌, ◌-◌}
-use mathlib.Core.Path.{◌≡◌, refl, sym, ap, ◌∙◌}
-use lib.ListN.{length}
+use Prim.Native.Nat.{◌+◌}
+use mathlib.Core.Path.{sym, ◌∙◌}
 use lib.Seq.{length-take-le}
 use native.Mathlib.Omega.{arith}
-use Rattle.text.specs.Lines.{fields_in, column_of}
 use Rattle.text.proofs.Laws.{rest, index_le}
 use Rattle.text.proofs.Fields.{column_here, column_none, column_next}
 use borrow.Author.Rules.{rules}
@@ -25,6 +23,6 @@ returns-then-h-i c =
 
 pub loop-h-preserved : goal.loop-h-preserved
 loop-h-preserved c = let l = c.loop-h in (
-      search rules,
-      rw (rest l.h.now (c.index_of-i.result + 1)) (omega (arith, column_next _ _ _ c.index_of-i.ensures (sym c.same.ensures ∙ c.if-same.false) c.if-h-i.false, l.invariant.1)),
-    )
+  search rules,
+  rw (rest l.h.now (c.index_of-i.result + 1)) (omega (arith, column_next _ _ _ c.index_of-i.ensures (sym c.same.ensures ∙ c.if-same.false) c.if-h-i.false, l.invariant.1)),
+)

@@ -1,12 +1,7 @@
-use Prim.Native.Nat.{◌+◌, ◌≤◌, ◌-◌}
-use mathlib.Core.Path.{◌≡◌, refl, sym, ap, ◌∙◌}
+use Prim.Native.Nat.{◌+◌, ◌≤◌}
+use mathlib.Core.Path.{◌≡◌}
 use lib.ListN.{length}
-use lib.Seq.{length-take-le}
-use native.Mathlib.Omega.{arith}
 use Rattle.text.specs.Lines.{fields_in, column_of}
-use Rattle.text.proofs.Laws.{rest, index_le}
-use Rattle.text.proofs.Fields.{column_here, column_none, column_next}
-use borrow.Author.Rules.{rules}
 use Rattle.text.proofs.column.Given as goal
 
 -- `text::column` meets its contract. The loop's invariant: k names stand before those that are left. Assumes nothing.

@@ -1,7 +1,6 @@
 use mathlib.Core.Path.{sym}
 use native.Mathlib.Omega.{arith}
 use Rattle.text.proofs.Fields.{by_none, by_part, by_empty, by_past, by_all}
-use borrow.Author.Rules.{rules}
 use Rattle.text.proofs.field.Goals as goal
 
 -- `text::field` meets its contract. Assumes nothing.

@@ -1,9 +1,6 @@
 use borrow.Author.Rules.{rules}
-use Prim.Native.Nat.{◌+◌, ◌≤◌, ◌-◌}
-use mathlib.Core.Path.{◌≡◌, sym, ◌∙◌}
-use lib.ListN.{length, drop}
+use mathlib.Core.Path.{sym, ◌∙◌}
 use native.Mathlib.Nat.{zero-add}
-use Rattle.text.specs.Bytes.{index_of}
 use Rattle.text.proofs.Laws.{index_hit, index_miss, index_end}
 use Rattle.text.proofs.index_of.Goals as goal
 

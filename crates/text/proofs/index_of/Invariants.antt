@@ -1,10 +1,7 @@
-use borrow.Author.Rules.{rules}
 use Prim.Native.Nat.{◌+◌, ◌≤◌, ◌-◌}
-use mathlib.Core.Path.{◌≡◌, sym, ◌∙◌}
+use mathlib.Core.Path.{◌≡◌}
 use lib.ListN.{length, drop}
-use native.Mathlib.Nat.{zero-add}
 use Rattle.text.specs.Bytes.{index_of}
-use Rattle.text.proofs.Laws.{index_hit, index_miss, index_end}
 use Rattle.text.proofs.index_of.Given as goal
 
 -- `text::index_of` meets its contract. Assumes nothing.

@@ -1,11 +1,11 @@
-use Prim.Native.Nat.{◌+◌, ◌≤◌, ◌-◌}
-use mathlib.Core.Path.{◌≡◌, refl, sym, ap, ◌∙◌}
+use Prim.Native.Nat.{◌+◌}
+use mathlib.Core.Path.{sym, ap, ◌∙◌}
 use native.Mathlib.Omega.{arith}
 use lib.ListN.{length}
 use lib.Seq.{length-take-le}
 use borrow.Author.Tests.{eq-eqb, ne_eqb}
 use Rattle.text.specs.declared.Starts.{Starts}
-use Rattle.text.specs.Lines.{fields_in, has_names, names_once}
+use Rattle.text.specs.Lines.{fields_in, names_once}
 use Rattle.text.proofs.Laws.{rest, index_le}
 use Rattle.text.proofs.Fields.{count_is, all_miss, all_last, all_next}
 use borrow.Author.Rules.{rules}

@@ -1,14 +1,7 @@
-use Prim.Native.Nat.{◌+◌, ◌≤◌, ◌-◌}
-use mathlib.Core.Path.{◌≡◌, refl, sym, ap, ◌∙◌}
-use native.Mathlib.Omega.{arith}
+use Prim.Native.Nat.{◌≤◌}
+use mathlib.Core.Path.{◌≡◌}
 use lib.ListN.{length}
-use lib.Seq.{length-take-le}
-use borrow.Author.Tests.{eq-eqb, ne_eqb}
-use Rattle.text.specs.declared.Starts.{Starts}
 use Rattle.text.specs.Lines.{fields_in, has_names, names_once}
-use Rattle.text.proofs.Laws.{rest, index_le}
-use Rattle.text.proofs.Fields.{count_is, all_miss, all_last, all_next}
-use borrow.Author.Rules.{rules}
 use Rattle.text.proofs.is_header.Given as goal
 
 -- `text::is_header` meets its contract. The loop's invariant: the names that are left have their columns where all have. Assumes nothing.

@@ -1,7 +1,6 @@
 use mathlib.Core.Path.{sym}
 use native.Mathlib.Omega.{arith}
 use Rattle.text.proofs.Laws.{line_ends, line-part, line-none}
-use borrow.Author.Rules.{rules}
 use Rattle.text.proofs.line_at.Goals as goal
 
 -- `text::line_at` meets its contract. Assumes nothing.

@@ -4,7 +4,6 @@ use lib.ListN.{drop, length-drop}
 use Rattle.text.specs.Bytes.{index_of}
 use Rattle.text.specs.Lines.{line_end}
 use Rattle.text.proofs.Laws.{index_le, rest, line-beyond}
-use borrow.Author.Rules.{rules}
 use Rattle.text.proofs.line_end.Goals as goal
 
 -- `text::line_end` meets its contract. Assumes nothing.

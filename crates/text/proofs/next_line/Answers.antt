@@ -3,7 +3,6 @@ use Prim.Native.Nat.{◌<◌, ◌≤◌}
 use lib.ListN.{length}
 use Rattle.text.specs.Lines.{line_end}
 use Rattle.text.proofs.Laws.{next_whole, next_none}
-use borrow.Author.Rules.{rules}
 use Rattle.text.proofs.next_line.Goals as goal
 
 -- `text::next_line` meets its contract. Assumes nothing.

@@ -1,9 +1,6 @@
 use borrow.Author.Rules.{rules}
-use Prim.Native.Nat.{◌≤◌, ◌-◌}
-use mathlib.Core.Path.{◌≡◌, refl, sym, ◌∙◌}
-use lib.ListN.{length, drop}
+use mathlib.Core.Path.{refl, sym, ◌∙◌}
 use native.Mathlib.Omega.{arith}
-use Rattle.text.specs.Bytes.{eq_bytes}
 use Rattle.text.proofs.Laws.{eq_hit, eq_miss, eq_end, eq_lengths}
 use Rattle.text.proofs.same.Goals as goal
 

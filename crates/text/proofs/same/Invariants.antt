@@ -1,10 +1,7 @@
-use borrow.Author.Rules.{rules}
 use Prim.Native.Nat.{◌≤◌, ◌-◌}
-use mathlib.Core.Path.{◌≡◌, refl, sym, ◌∙◌}
+use mathlib.Core.Path.{◌≡◌}
 use lib.ListN.{length, drop}
-use native.Mathlib.Omega.{arith}
 use Rattle.text.specs.Bytes.{eq_bytes}
-use Rattle.text.proofs.Laws.{eq_hit, eq_miss, eq_end, eq_lengths}
 use Rattle.text.proofs.same.Given as goal
 
 -- `text::same` meets its contract. The loop's invariant: what is left of the two is the same where they are. Assumes nothing.

@@ -4,10 +4,9 @@ use mathlib.Core.Path.{◌≡◌, sym, ap, ◌∙◌}
 use native.Mathlib.Omega.{arith}
 use lib.ListN.{length, take, drop, length-drop, length-set}
 use Rattle.text.specs.Bytes.{index_of}
-use Rattle.text.specs.Split.{no_starts, starts_from, split_of}
+use Rattle.text.specs.Split.{no_starts, split_of}
 use Rattle.text.proofs.Laws.{rest, index_le}
-use Rattle.text.proofs.Fields.{fields_from, from_some, split_more, split_full, split_end}
-use borrow.Author.Rules.{rules}
+use Rattle.text.proofs.Fields.{from_some, split_more, split_full, split_end}
 use Rattle.text.proofs.split.Goals as goal
 
 -- where the space after a field stands, or the end
