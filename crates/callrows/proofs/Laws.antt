@@ -17,7 +17,6 @@ use Rattle.text.proofs.Fields.{count_is, field_is}
 use Rattle.text.specs.Options.{◌>>=◌}
 use Rattle.callrows.specs.declared.CallColumns.{CallColumns}
 use Rattle.callrows.specs.declared.CallRead.{CallRead}
-use Rattle.callrows.specs.declared.CallRead.TheVariants as CallRead
 use Rattle.callrows.specs.Calls.{call_from, call_named, uses_of, value_in, number_read, fields_fit, data_if, call_by, call_of, as_call_row, call_row_with}
 
 -- a call with its bytes, read or not

@@ -9,9 +9,7 @@ use Rattle.rules.specs.Calls.{Call, fields_of, kind_of, moved}
 use Rattle.label.specs.Calls.{call_with}
 use Rattle.label.specs.Words.{words}
 use Rattle.values.specs.declared.Number.{Number}
-use Rattle.values.specs.declared.Number.TheVariants as Number
 use Rattle.values.specs.declared.Size.{Size}
-use Rattle.values.specs.declared.Size.TheVariants as Size
 use Rattle.values.specs.declared.Data.{Data}
 use Rattle.text.specs.Ascii.{ascii}
 use Rattle.text.specs.Bytes.{eq_bytes}
@@ -21,7 +19,6 @@ use Rattle.values.specs.Answers.{as_number, data_bytes, no_bytes}
 use Rattle.text.specs.Options.{◌>>=◌}
 use Rattle.callrows.specs.declared.CallColumns.{CallColumns}
 use Rattle.callrows.specs.declared.CallRead.{CallRead}
-use Rattle.callrows.specs.declared.CallRead.TheVariants as CallRead
 use Rattle.callrows.specs.declared.Uses.{Uses}
 use Rattle.callrows.specs.declared.CallRow.{CallRow}
 

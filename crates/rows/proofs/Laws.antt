@@ -28,7 +28,6 @@ use Rattle.text.proofs.Fields.{count_is, field_is}
 use Rattle.text.specs.Options.{◌>>=◌}
 use Rattle.rows.specs.declared.EntityColumns.{EntityColumns}
 use Rattle.rows.specs.declared.EntityRead.{EntityRead}
-use Rattle.rows.specs.declared.EntityRead.TheVariants as EntityRead
 use Rattle.rows.specs.declared.Placed.TheVariants as Placed
 use Rattle.rows.specs.Entities.{kind_named, entity_formed, entity_in, entity_by, entity_of, as_entity_row}
 use Rattle.rows.specs.Readings.{is_set, set_in, entity_with, as_entity_read, length_in, placed_with, entity_row_with}

@@ -8,17 +8,12 @@ use Rattle.label.specs.Tags.{empty}
 use Rattle.entity.specs.declared.Entity.{Entity}
 use Rattle.block.specs.Block.{no_block, padded}
 use Rattle.values.specs.declared.Number.{Number}
-use Rattle.values.specs.declared.Number.TheVariants as Number
 use Rattle.values.specs.declared.Tags.{Tags}
-use Rattle.values.specs.declared.Tags.TheVariants as Tags
 use Rattle.values.specs.declared.Size.{Size}
-use Rattle.values.specs.declared.Size.TheVariants as Size
 use Rattle.values.specs.declared.Data.{Data}
 use Rattle.rows.specs.Entities.{entity_formed}
 use Rattle.rows.specs.declared.EntityRead.{EntityRead}
-use Rattle.rows.specs.declared.EntityRead.TheVariants as EntityRead
 use Rattle.rows.specs.declared.Placed.{Placed}
-use Rattle.rows.specs.declared.Placed.TheVariants as Placed
 use Rattle.rows.specs.declared.EntityRow.{EntityRow}
 
 abbrev pub is_set : Tags → Bool

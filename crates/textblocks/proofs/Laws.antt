@@ -13,7 +13,6 @@ use native.Mathlib.Decide.{dec_le}
 use borrow.Author.Tests.{eq-eqb, ne_eqb, lt-ltb, le-ltb, le-leb, lt-leb}
 use Rattle.label.specs.declared.Label.{Label}
 use Rattle.values.specs.declared.Tags.{Tags}
-use Rattle.values.specs.declared.Tags.TheVariants as Tags
 use Rattle.text.specs.Lines.{Lines, done, cut, line, lines_of, line_end, line_at, next_line}
 use Rattle.values.specs.Answers.{as_tags}
 use Rattle.text.proofs.Laws.{Over, line_ends, line-part, lines_end, next_whole}

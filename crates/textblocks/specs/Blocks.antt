@@ -8,7 +8,6 @@ use Rattle.rows.specs.Names.{entity_names, group_names}
 use Rattle.rows.specs.Entities.{entity_columns, entity_of}
 use Rattle.callrows.specs.Calls.{call_names, call_columns, call_of}
 use Rattle.textblocks.specs.declared.Block.{Block}
-use Rattle.textblocks.specs.declared.Block.TheVariants as Block
 use Rattle.textblocks.specs.declared.Place.{Place}
 
 -- ---- places: an empty line stands between a block and the next

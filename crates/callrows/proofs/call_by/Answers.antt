@@ -1,7 +1,6 @@
 use mathlib.Core.Path.{sym, ◌∙◌}
 use Rattle.callrows.specs.Calls.{call_by}
 use Rattle.callrows.proofs.Laws.{call_by_is}
-use borrow.Author.Rules.{rules}
 use Rattle.callrows.proofs.call_by.Goals as goal
 
 -- `callrows::call_by` meets its contract. Assumes nothing.

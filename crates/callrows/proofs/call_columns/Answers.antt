@@ -1,5 +1,4 @@
 use Rattle.callrows.specs.Calls.{call_columns}
-use borrow.Author.Rules.{rules}
 use Rattle.callrows.proofs.call_columns.Goals as goal
 
 -- `callrows::call_columns` meets its contract. Assumes nothing.

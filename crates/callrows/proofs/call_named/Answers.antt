@@ -2,7 +2,6 @@ use mathlib.Core.Path.{◌≡◌, ◌∙◌, refl}
 use mathlib.Core.Bool.{Bool, cond}
 use Rattle.callrows.specs.Calls.{call_named}
 use Rattle.callrows.specs.declared.CallRead.{CallRead}
-use borrow.Author.Rules.{rules}
 use Rattle.callrows.proofs.call_named.Goals as goal
 
 -- `callrows::call_named` meets its contract. Assumes nothing.

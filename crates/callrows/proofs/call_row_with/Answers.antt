@@ -1,6 +1,4 @@
 use mathlib.Core.Path.{◌∙◌}
-use borrow.Author.Tests.{not-true, not-false}
-use borrow.Author.Rules.{rules}
 use Rattle.callrows.proofs.call_row_with.Goals as goal
 
 -- `callrows::call_row_with` meets its contract. Assumes nothing.

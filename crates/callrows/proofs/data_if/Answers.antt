@@ -1,6 +1,5 @@
 use mathlib.Core.Path.{sym, ◌∙◌}
 use Rattle.callrows.specs.Calls.{data_if}
-use borrow.Author.Rules.{rules}
 use Rattle.callrows.proofs.data_if.Goals as goal
 
 -- `callrows::data_if` meets its contract. Assumes nothing.

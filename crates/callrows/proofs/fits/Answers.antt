@@ -1,6 +1,4 @@
 use mathlib.Core.Path.{◌∙◌}
-use borrow.Author.Tests.{not-true, not-false}
-use borrow.Author.Rules.{rules}
 use Rattle.callrows.proofs.fits.Goals as goal
 
 -- `callrows::fits` meets its contract. Assumes nothing.

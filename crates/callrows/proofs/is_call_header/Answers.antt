@@ -1,5 +1,4 @@
 use Rattle.text.specs.Lines.{fields_in, ahead}
-use borrow.Author.Rules.{rules}
 use Rattle.callrows.proofs.is_call_header.Goals as goal
 
 -- `callrows::is_call_header` meets its contract. Assumes nothing.

@@ -1,4 +1,3 @@
-
 use Rattle.callrows.proofs.no_call.Goals as goal
 
 -- `callrows::no_call` meets its contract. Assumes nothing.

@@ -1,4 +1,3 @@
-use borrow.Author.Rules.{rules}
 use Rattle.callrows.proofs.or_named.Goals as goal
 
 -- `callrows::or_named` meets its contract. Assumes nothing.

@@ -1,4 +1,3 @@
-use borrow.Author.Rules.{rules}
 use Rattle.callrows.proofs.uses_of.Goals as goal
 
 -- `callrows::uses_of` meets its contract. Assumes nothing.

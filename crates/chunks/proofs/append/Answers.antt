@@ -1,6 +1,5 @@
 use mathlib.Core.Path.{ap, ◌∙◌}
 use Rattle.chunks.specs.Chunks.{appended, appended_to}
-use borrow.Author.Rules.{rules}
 use Rattle.chunks.proofs.append.Goals as goal
 
 -- `chunks::append` meets its contract. Assumes nothing.

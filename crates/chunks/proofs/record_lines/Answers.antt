@@ -8,7 +8,7 @@ use borrow.Author.Tests.{leb-true, leb-false}
 use Rattle.print.specs.Lines.{record_line, as_line}
 use Rattle.chunks.specs.Lists.{record_pieces}
 use Rattle.chunks.proofs.Lists.{record_bounded}
-use Rattle.chunks.proofs.Chunks.{Filling, filling_start, filling_length, filling_more, filling_done, filling_full, line-appended}
+use Rattle.chunks.proofs.Chunks.{filling_start, filling_length, filling_more, filling_done, filling_full, line-appended}
 use borrow.Author.Rules.{rules}
 use Rattle.chunks.proofs.record_lines.Goals as goal
 

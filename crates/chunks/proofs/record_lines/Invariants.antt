@@ -1,15 +1,8 @@
-use mathlib.Core.Path.{refl, sym, ap, ◌∙◌}
-use Prim.Native.Nat.{ℕ, ◌+◌, ◌-◌}
-use native.Mathlib.Omega.{arith}
-use mathlib.Core.List.{List}
-use lib.ListN.{length, take, drop, length-drop}
-use lib.Seq.{take_all}
-use borrow.Author.Tests.{leb-true, leb-false}
-use Rattle.print.specs.Lines.{record_line, as_line}
+use Prim.Native.Nat.{◌-◌}
+use lib.ListN.{length}
 use Rattle.chunks.specs.Lists.{record_pieces}
 use Rattle.chunks.proofs.Lists.{record_bounded}
-use Rattle.chunks.proofs.Chunks.{Filling, filling_start, filling_length, filling_more, filling_done, filling_full, line-appended}
-use borrow.Author.Rules.{rules}
+use Rattle.chunks.proofs.Chunks.{Filling}
 use Rattle.chunks.proofs.record_lines.Given as goal
 
 -- `chunks::record_lines` meets its contract. Assumes nothing.

@@ -1,11 +1,10 @@
-use Prim.Native.Nat.{ℕ, ◌+◌, ◌-◌, ◌≤◌}
+use Prim.Native.Nat.{ℕ, ◌+◌}
 use mathlib.Core.Path.{◌≡◌, refl, sym, ap, ◌∙◌}
 use mathlib.Core.Bool.{Bool}
 use mathlib.Core.List.{List}
 use mathlib.Core.Option.{Option}
 use native.Mathlib.Omega.{arith}
-use lib.ListN.{length, drop}
-use borrow.Author.Tests.{not-true, not-false}
+use lib.ListN.{drop}
 use Rattle.text.specs.Lines.{lines_of, next_line, fields_in}
 use Rattle.text.proofs.Laws.{Line}
 use Rattle.rules.specs.Table.{is_free, keeps_all}
@@ -17,10 +16,8 @@ use Rattle.rows.specs.declared.EntityColumns.{EntityColumns}
 use Rattle.rows.specs.declared.EntityRow.{EntityRow}
 use Rattle.rows.specs.Entities.{EntitySaid, entity_of, as_entity_row}
 use Rattle.textblocks.proofs.Laws.{RowRead, row_some, row_none}
-use Rattle.load.specs.declared.Stored.{Stored}
-use Rattle.load.specs.Tables.{row_in, none_stored, breaks_at, with_entity, fill}
+use Rattle.load.specs.Tables.{row_in, breaks_at, with_entity, fill}
 use Rattle.load.proofs.Rows.{row_next, no_entity, fill_none, fill_twice, fill_step}
-use borrow.Author.Rules.{rules}
 use Rattle.load.proofs.entity_rows.Invariants.{stored}
 use Rattle.load.proofs.entity_rows.Goals as goal
 use Rattle.load.proofs.entity_rows.Goals.{After-is_free}

@@ -1,25 +1,10 @@
 use Prim.Native.Nat.{ℕ, ◌+◌, ◌-◌, ◌≤◌}
-use mathlib.Core.Path.{◌≡◌, refl, sym, ap, ◌∙◌}
-use mathlib.Core.Bool.{Bool}
-use mathlib.Core.List.{List}
-use mathlib.Core.Option.{Option}
-use native.Mathlib.Omega.{arith}
+use mathlib.Core.Path.{◌≡◌}
 use lib.ListN.{length, drop}
-use borrow.Author.Tests.{not-true, not-false}
-use Rattle.text.specs.Lines.{lines_of, next_line, fields_in}
-use Rattle.text.proofs.Laws.{Line}
-use Rattle.rules.specs.Table.{is_free, keeps_all}
-use Rattle.entity.specs.declared.Entity.{Entity}
-use Rattle.entity.specs.Entity.{bare}
+use Rattle.text.specs.Lines.{lines_of}
 use Rattle.monitor.specs.declared.Table.{Table}
-use Rattle.monitor.specs.Table.{entity_at, groups_of, with_slot}
-use Rattle.rows.specs.declared.EntityColumns.{EntityColumns}
-use Rattle.rows.specs.Entities.{EntitySaid, entity_of, as_entity_row}
-use Rattle.textblocks.proofs.Laws.{RowRead, row_some, row_none}
 use Rattle.load.specs.declared.Stored.{Stored}
-use Rattle.load.specs.Tables.{row_in, none_stored, breaks_at, with_entity, fill}
-use Rattle.load.proofs.Rows.{row_next, no_entity, fill_none, fill_twice, fill_step}
-use borrow.Author.Rules.{rules}
+use Rattle.load.specs.Tables.{none_stored, fill}
 use Rattle.load.proofs.entity_rows.Given as goal
 
 -- `load::entity_rows` meets its contract. The loop's invariant: storing on with the rows that are left gives what all give. Assumes nothing.

@@ -1,4 +1,4 @@
-use Prim.Native.Nat.{ℕ, ◌-◌}
+use Prim.Native.Nat.{ℕ}
 use mathlib.Core.Path.{◌≡◌, refl, sym, ap, ◌∙◌}
 use mathlib.Core.List.{List, [], ◌∷◌, ◌++◌}
 use mathlib.Core.Option.{some}
@@ -12,7 +12,6 @@ use Rattle.text.proofs.Laws.{Line}
 use Rattle.textblocks.proofs.Laws.{tags_some, tags_none}
 use Rattle.load.specs.Tables.{row_in, groups_from, empty_with}
 use Rattle.load.proofs.Rows.{row_next, no_set, groups_none, groups_full, groups_step, empty-none, empty-count, empty_places, empty-more, Gathered}
-use borrow.Author.Rules.{rules}
 use Rattle.load.proofs.group_rows.Goals as goal
 use Rattle.load.proofs.group_rows.Goals.{In-Set}
 

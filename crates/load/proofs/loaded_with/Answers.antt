@@ -1,4 +1,3 @@
-use borrow.Author.Rules.{rules}
 use Rattle.load.proofs.loaded_with.Goals as goal
 
 -- `load::loaded_with` meets its contract. Assumes nothing.

@@ -3,7 +3,6 @@ use mathlib.Core.Path.{sym, ◌∙◌}
 use lib.ListN.{length}
 use Rattle.text.specs.Lines.{line_end}
 use Rattle.load.proofs.Rows.{row_over, row_whole}
-use borrow.Author.Rules.{rules}
 use Rattle.load.proofs.row_at.Goals as goal
 
 -- `load::row_at` meets its contract. Assumes nothing.

@@ -5,7 +5,6 @@ use lib.ListN.{length, length-append, length-take}
 use native.Mathlib.Omega.{arith}
 use Rattle.print.specs.Lines.{call_line, data_text, hex_text, as_line}
 use Rattle.print.proofs.Laws.{data_most, length-hex, with_line, with_len, line-len}
-use borrow.Author.Rules.{rules}
 use Rattle.print.proofs.call_line.Goals as goal
 
 -- `print::call_line` meets its contract. Assumes nothing.

@@ -1,6 +1,5 @@
 use borrow.Author.Tests.{lt-ltb, le-ltb}
 use Rattle.print.specs.Lines.{digit_text}
-use borrow.Author.Rules.{rules}
 use Rattle.print.proofs.digit_text.Goals as goal
 
 -- `print::digit_text` meets its contract. Assumes nothing.

@@ -4,7 +4,6 @@ use lib.ListN.{length, length-take}
 use native.Mathlib.Omega.{arith}
 use Rattle.print.specs.Lines.{as_line}
 use Rattle.print.proofs.Laws.{with_line, line-len, line-size}
-use borrow.Author.Rules.{rules}
 use Rattle.print.proofs.line_of.Goals as goal
 
 -- `print::line_of` meets its contract. Assumes nothing.

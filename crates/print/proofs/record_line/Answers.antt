@@ -5,7 +5,6 @@ use lib.ListN.{length, length-append, length-take}
 use native.Mathlib.Omega.{arith}
 use Rattle.print.specs.Lines.{hex_text, record_line, as_line}
 use Rattle.print.proofs.Laws.{length-hex, with_line, line-len}
-use borrow.Author.Rules.{rules}
 use Rattle.print.proofs.record_line.Goals as goal
 
 -- `print::record_line` meets its contract. Assumes nothing.

@@ -1,7 +1,6 @@
 use native.Mathlib.Omega.{arith}
 use Rattle.print.specs.Lines.{refused_text, decimal_text}
 use Rattle.print.proofs.Laws.{decimal_most, with_line, line-len}
-use borrow.Author.Rules.{rules}
 use Rattle.print.proofs.refused.Goals as goal
 
 -- `print::refused` meets its contract. Assumes nothing.

@@ -4,7 +4,6 @@ use lib.ListN.{length-append}
 use native.Mathlib.Omega.{arith}
 use Rattle.print.specs.Lines.{refused_text, refused_audit, decimal_text, as_line}
 use Rattle.print.proofs.Laws.{decimal_most, with_line, line-len}
-use borrow.Author.Rules.{rules}
 use Rattle.print.proofs.refused_audit.Goals as goal
 
 -- `print::refused_audit` meets its contract. Assumes nothing.

@@ -5,7 +5,6 @@ use native.Mathlib.Omega.{arith}
 use Rattle.text.specs.Ascii.{ascii}
 use Rattle.print.specs.Lines.{refused_text, refused_line, decimal_text, as_line}
 use Rattle.print.proofs.Laws.{decimal_most, with_line, with_len, line-len, line-size}
-use borrow.Author.Rules.{rules}
 use Rattle.print.proofs.refused_line.Goals as goal
 
 -- `print::refused_line` meets its contract. Assumes nothing.

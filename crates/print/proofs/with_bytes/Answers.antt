@@ -4,7 +4,6 @@ use lib.ListN.{length, take, drop, length-take, length-drop}
 use native.Mathlib.Omega.{arith}
 use Rattle.copying.proofs.Copied.{copied_whole}
 use Rattle.print.proofs.Laws.{copied}
-use borrow.Author.Rules.{rules}
 use Rattle.print.proofs.with_bytes.Goals as goal
 
 -- `print::with_bytes` meets its contract. Assumes nothing.

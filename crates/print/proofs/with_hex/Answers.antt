@@ -1,12 +1,10 @@
-use Prim.Native.Nat.{ℕ, ◌+◌, ◌*◌, ◌≤◌, ◌-◌}
+use Prim.Native.Nat.{ℕ, ◌+◌}
 use mathlib.Core.Path.{◌≡◌, refl, sym, ap₂, ◌∙◌}
 use mathlib.Core.List.{List, [], ◌∷◌, ◌++◌}
-use lib.ListN.{length, drop, set, length-set, length-append}
-use lib.Seq.{sets}
+use lib.ListN.{length, set, length-set, length-append}
 use native.Mathlib.Omega.{arith}
 use Rattle.print.specs.Lines.{hex_text}
 use Rattle.print.proofs.Laws.{hex_end, hex-step, length-hex, sets_append}
-use borrow.Author.Rules.{rules}
 use Rattle.print.proofs.with_hex.Goals as goal
 
 pub loop-i-init : goal.loop-i-init

@@ -1,12 +1,8 @@
-use Prim.Native.Nat.{ℕ, ◌+◌, ◌*◌, ◌≤◌, ◌-◌}
-use mathlib.Core.Path.{◌≡◌, refl, sym, ap₂, ◌∙◌}
-use mathlib.Core.List.{List, [], ◌∷◌, ◌++◌}
-use lib.ListN.{length, drop, set, length-set, length-append}
+use Prim.Native.Nat.{◌+◌, ◌*◌, ◌≤◌, ◌-◌}
+use mathlib.Core.Path.{◌≡◌}
+use lib.ListN.{length, drop}
 use lib.Seq.{sets}
-use native.Mathlib.Omega.{arith}
 use Rattle.print.specs.Lines.{hex_text}
-use Rattle.print.proofs.Laws.{hex_end, hex-step, length-hex, sets_append}
-use borrow.Author.Rules.{rules}
 use Rattle.print.proofs.with_hex.Given as goal
 
 -- `print::with_hex` meets its contract. Assumes nothing.

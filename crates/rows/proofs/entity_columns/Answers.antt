@@ -1,5 +1,4 @@
 use Rattle.rows.specs.Entities.{entity_columns}
-use borrow.Author.Rules.{rules}
 use Rattle.rows.proofs.entity_columns.Goals as goal
 
 -- `rows::entity_columns` meets its contract. Assumes nothing.

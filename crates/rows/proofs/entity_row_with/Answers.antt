@@ -1,4 +1,3 @@
-use borrow.Author.Rules.{rules}
 use Rattle.rows.proofs.entity_row_with.Goals as goal
 
 -- `rows::entity_row_with` meets its contract. Assumes nothing.

@@ -1,5 +1,4 @@
 use Rattle.text.specs.Lines.{fields_in, ahead}
-use borrow.Author.Rules.{rules}
 use Rattle.rows.proofs.is_entity_header.Goals as goal
 
 -- `rows::is_entity_header` meets its contract. Assumes nothing.

@@ -1,6 +1,5 @@
 use mathlib.Core.Path.{sym, ◌∙◌}
 use Rattle.rows.specs.Entities.{kind_named}
-use borrow.Author.Rules.{rules}
 use Rattle.rows.proofs.kind_named.Goals as goal
 
 -- `rows::kind_named` meets its contract. Assumes nothing.

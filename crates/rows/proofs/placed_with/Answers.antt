@@ -1,6 +1,5 @@
-use mathlib.Core.Path.{◌≡◌, sym, ap, ◌∙◌}
+use mathlib.Core.Path.{sym, ap, ◌∙◌}
 use mathlib.Core.Bool.{Bool, ◌&&◌}
-use borrow.Author.Rules.{rules}
 use Rattle.rows.proofs.placed_with.Goals as goal
 
 -- `rows::placed_with` meets its contract. Assumes nothing.

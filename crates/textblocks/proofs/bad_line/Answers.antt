@@ -9,7 +9,6 @@ use Rattle.textblocks.specs.declared.Place.{Place}
 use Rattle.textblocks.specs.declared.Block.TheVariants as Block
 use Rattle.textblocks.specs.Blocks.{start, names_at, is_header, block_bad, entities_bad, groups_bad, calls_bad, or_else, bad_line}
 use Rattle.textblocks.specs.CallsIn.{call_columns_in}
-use borrow.Author.Rules.{rules}
 use Rattle.textblocks.proofs.bad_line.Goals as goal
 
 -- `textblocks::bad_line` meets its contract. Assumes nothing.

@@ -3,12 +3,10 @@ use mathlib.Core.Path.{◌≡◌, sym, ap, ◌∙◌}
 use mathlib.Core.List.{List}
 use native.Mathlib.Omega.{arith}
 use lib.ListN.{length}
-use borrow.Author.Tests.{not-true, not-false}
 use Rattle.text.specs.Lines.{line_end, fields_in}
 use Rattle.text.proofs.Laws.{line_ends}
 use Rattle.textblocks.specs.Blocks.{is_header, names_at}
 use Rattle.textblocks.proofs.Laws.{next_is, block_none, block_other, block_names}
-use borrow.Author.Rules.{rules}
 use Rattle.textblocks.proofs.block_bad.Goals as goal
 use Rattle.textblocks.proofs.block_bad.Goals.{After-is_header}
 

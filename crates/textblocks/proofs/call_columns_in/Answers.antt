@@ -1,6 +1,5 @@
 use mathlib.Core.Path.{◌∙◌}
 use Rattle.textblocks.specs.CallsIn.{call_columns_in}
-use borrow.Author.Rules.{rules}
 use Rattle.textblocks.proofs.call_columns_in.Goals as goal
 
 -- `textblocks::call_columns_in` meets its contract. Assumes nothing.

@@ -1,5 +1,4 @@
 use mathlib.Core.Path.{◌∙◌}
-use borrow.Author.Rules.{rules}
 use Rattle.textblocks.proofs.is_header.Goals as goal
 
 -- `textblocks::is_header` meets its contract. Assumes nothing.

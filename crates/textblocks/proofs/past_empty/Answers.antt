@@ -1,13 +1,12 @@
-use Prim.Native.Nat.{ℕ, ◌+◌, ◌-◌, ◌≤◌}
-use mathlib.Core.Path.{◌≡◌, refl, ap₂}
+use Prim.Native.Nat.{ℕ}
+use mathlib.Core.Path.{refl, ap₂}
 use native.Mathlib.Omega.{arith}
-use lib.ListN.{length, drop}
+use lib.ListN.{drop}
 use Rattle.text.specs.Lines.{lines_of}
 use Rattle.text.proofs.Laws.{line_ends, line_here}
 use Rattle.textblocks.specs.declared.Place.{Place}
-use Rattle.textblocks.specs.Blocks.{past_empty, bytes_past, lines_past}
+use Rattle.textblocks.specs.Blocks.{past_empty}
 use Rattle.textblocks.proofs.Laws.{length-line, past_over, past-empty, past_step}
-use borrow.Author.Rules.{rules}
 use Rattle.textblocks.proofs.past_empty.Goals as goal
 
 abbrev placed : ℕ → ℕ → Place

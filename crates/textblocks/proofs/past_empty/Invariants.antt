@@ -1,13 +1,8 @@
-use Prim.Native.Nat.{ℕ, ◌+◌, ◌-◌, ◌≤◌}
-use mathlib.Core.Path.{◌≡◌, refl, ap₂}
-use native.Mathlib.Omega.{arith}
+use Prim.Native.Nat.{◌+◌, ◌-◌, ◌≤◌}
+use mathlib.Core.Path.{◌≡◌}
 use lib.ListN.{length, drop}
 use Rattle.text.specs.Lines.{lines_of}
-use Rattle.text.proofs.Laws.{line_ends, line_here}
-use Rattle.textblocks.specs.declared.Place.{Place}
-use Rattle.textblocks.specs.Blocks.{past_empty, bytes_past, lines_past}
-use Rattle.textblocks.proofs.Laws.{length-line, past_over, past-empty, past_step}
-use borrow.Author.Rules.{rules}
+use Rattle.textblocks.specs.Blocks.{bytes_past, lines_past}
 use Rattle.textblocks.proofs.past_empty.Given as goal
 
 -- `textblocks::past_empty` meets its contract. The loop's invariant: the place past the empty line is that of what is left. Assumes nothing.

@@ -9,7 +9,6 @@ use Rattle.rows.specs.Entities.{EntitySaid, entity_of}
 use Rattle.callrows.specs.Calls.{call_of}
 use Rattle.textblocks.specs.Blocks.{is_some}
 use Rattle.textblocks.proofs.Laws.{tags_some, tags_none, row_some, row_none, call-some, call_none}
-use borrow.Author.Rules.{rules}
 use Rattle.textblocks.proofs.row_good.Goals as goal
 
 -- `textblocks::row_good` meets its contract. Assumes nothing.

@@ -1,17 +1,15 @@
-use Prim.Native.Nat.{ℕ, ◌+◌, ◌-◌, ◌≤◌, ◌<◌}
+use Prim.Native.Nat.{ℕ, ◌+◌, ◌≤◌, ◌<◌}
 use mathlib.Core.Path.{◌≡◌, refl, sym, ◌∙◌}
 use mathlib.Core.Bool.{cond, ◌&&◌}
 use mathlib.Core.List.{List}
 use native.Mathlib.Omega.{arith}
 use lib.Dec.{leb, eqb}
 use lib.ListN.{length, drop}
-use borrow.Author.Tests.{not-true, not-false}
 use Rattle.text.specs.Lines.{lines_of, line_at}
 use Rattle.text.proofs.Laws.{Line, LineEnd, line_ends, line_here, line-part}
 use Rattle.textblocks.specs.declared.Block.{Block}
 use Rattle.textblocks.specs.Blocks.{is_last, rows_bad}
 use Rattle.textblocks.proofs.Laws.{rows_over, rows_empty, rows-bad, rows_step, empty-line}
-use borrow.Author.Rules.{rules}
 use Rattle.textblocks.proofs.rows_bad.Goals as goal
 use Rattle.textblocks.proofs.rows_bad.Goals.{After-line_end-end}
 

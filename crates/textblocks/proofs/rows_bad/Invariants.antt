@@ -1,17 +1,8 @@
-use Prim.Native.Nat.{ℕ, ◌+◌, ◌-◌, ◌≤◌, ◌<◌}
-use mathlib.Core.Path.{◌≡◌, refl, sym, ◌∙◌}
-use mathlib.Core.Bool.{cond, ◌&&◌}
-use mathlib.Core.List.{List}
-use native.Mathlib.Omega.{arith}
-use lib.Dec.{leb, eqb}
+use Prim.Native.Nat.{◌+◌, ◌-◌, ◌≤◌}
+use mathlib.Core.Path.{◌≡◌}
 use lib.ListN.{length, drop}
-use borrow.Author.Tests.{not-true, not-false}
-use Rattle.text.specs.Lines.{lines_of, line_at}
-use Rattle.text.proofs.Laws.{Line, LineEnd, line_ends, line_here, line-part}
-use Rattle.textblocks.specs.declared.Block.{Block}
+use Rattle.text.specs.Lines.{lines_of}
 use Rattle.textblocks.specs.Blocks.{is_last, rows_bad}
-use Rattle.textblocks.proofs.Laws.{rows_over, rows_empty, rows-bad, rows_step, empty-line}
-use borrow.Author.Rules.{rules}
 use Rattle.textblocks.proofs.rows_bad.Given as goal
 
 -- `textblocks::rows_bad` meets its contract. The loop's invariant: the first bad line of the rows that are left is that of all. Assumes nothing.
