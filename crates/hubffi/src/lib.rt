@@ -1,5 +1,5 @@
 // The monitor for C and Rust: the nine calls, the audit and loading on the struct of a table, which goes in and comes back
-// by value. A `&[u8]` is a pointer and then a length there; include/hub.h declares what stands here.
+// by value. The crate hubffi_c exports what stands here, and include/hub.h declares it.
 #![tactic(auto)]
 
 ghost use Rattle.std.specs.Prelude.{◌≡◌};
@@ -63,8 +63,7 @@ fn answered(t: HubTable, r: Reply) -> HubReply
 }
 
 // 1: given bytes replace the caller's content.
-#[unsafe(no_mangle)]
-pub extern "C" fn hub_put(t: HubTable, caller: u8, bytes: &[u8]) -> HubReply
+pub fn hub_put(t: HubTable, caller: u8, bytes: &[u8]) -> HubReply
     ensures { result ≡ reply_to t (put caller bytes.now) }
 {
     let table = layout::table_of(t);
@@ -72,8 +71,7 @@ pub extern "C" fn hub_put(t: HubTable, caller: u8, bytes: &[u8]) -> HubReply
 }
 
 // 2: the caller's content goes to the front of a lent buffer: as many bytes as byte 4 of the record says.
-#[unsafe(no_mangle)]
-pub extern "C" fn hub_show(t: HubTable, caller: u8, out: &mut [u8]) -> HubReply
+pub fn hub_show(t: HubTable, caller: u8, out: &mut [u8]) -> HubReply
     ensures value { result ≡ reply_to t (show caller out.old) }
     ensures out_after { out.new ≡ shown_buffer (table_of t) caller out.old }
 {
@@ -83,8 +81,7 @@ pub extern "C" fn hub_show(t: HubTable, caller: u8, out: &mut [u8]) -> HubReply
 }
 
 // 3: the caller's content replaces the other's, if flow from caller to other is allowed.
-#[unsafe(no_mangle)]
-pub extern "C" fn hub_send(t: HubTable, caller: u8, other: u8) -> HubReply
+pub fn hub_send(t: HubTable, caller: u8, other: u8) -> HubReply
     ensures { result ≡ reply_to t (send caller other) }
 {
     let table = layout::table_of(t);
@@ -92,8 +89,7 @@ pub extern "C" fn hub_send(t: HubTable, caller: u8, other: u8) -> HubReply
 }
 
 // 4: the other's content replaces the caller's, if flow from other to caller is allowed.
-#[unsafe(no_mangle)]
-pub extern "C" fn hub_fetch(t: HubTable, caller: u8, other: u8) -> HubReply
+pub fn hub_fetch(t: HubTable, caller: u8, other: u8) -> HubReply
     ensures { result ≡ reply_to t (fetch caller other) }
 {
     let table = layout::table_of(t);
@@ -101,8 +97,7 @@ pub extern "C" fn hub_fetch(t: HubTable, caller: u8, other: u8) -> HubReply
 }
 
 // 5: a tag is added to one of the caller's two sets.
-#[unsafe(no_mangle)]
-pub extern "C" fn hub_add(t: HubTable, caller: u8, set: u8, tag: u8) -> HubReply
+pub fn hub_add(t: HubTable, caller: u8, set: u8, tag: u8) -> HubReply
     ensures { result ≡ reply_to t (add_tag caller set tag) }
 {
     let table = layout::table_of(t);
@@ -110,8 +105,7 @@ pub extern "C" fn hub_add(t: HubTable, caller: u8, set: u8, tag: u8) -> HubReply
 }
 
 // 6: a tag is dropped from one of the caller's two sets.
-#[unsafe(no_mangle)]
-pub extern "C" fn hub_drop(t: HubTable, caller: u8, set: u8, tag: u8) -> HubReply
+pub fn hub_drop(t: HubTable, caller: u8, set: u8, tag: u8) -> HubReply
     ensures { result ≡ reply_to t (drop_tag caller set tag) }
 {
     let table = layout::table_of(t);
@@ -119,8 +113,7 @@ pub extern "C" fn hub_drop(t: HubTable, caller: u8, set: u8, tag: u8) -> HubRepl
 }
 
 // 7: a new entity in a free slot, with the caller's S and I.
-#[unsafe(no_mangle)]
-pub extern "C" fn hub_create(t: HubTable, caller: u8, other: u8, set: u8) -> HubReply
+pub fn hub_create(t: HubTable, caller: u8, other: u8, set: u8) -> HubReply
     ensures { result ≡ reply_to t (create caller other set) }
 {
     let table = layout::table_of(t);
@@ -128,8 +121,7 @@ pub extern "C" fn hub_create(t: HubTable, caller: u8, other: u8, set: u8) -> Hub
 }
 
 // 8: the caller itself, or an item with the caller's S and I, is given up.
-#[unsafe(no_mangle)]
-pub extern "C" fn hub_release(t: HubTable, caller: u8, other: u8) -> HubReply
+pub fn hub_release(t: HubTable, caller: u8, other: u8) -> HubReply
     ensures { result ≡ reply_to t (release caller other) }
 {
     let table = layout::table_of(t);
@@ -137,8 +129,7 @@ pub extern "C" fn hub_release(t: HubTable, caller: u8, other: u8) -> HubReply
 }
 
 // 9: the other, a program, gains one right that the caller has.
-#[unsafe(no_mangle)]
-pub extern "C" fn hub_hand(t: HubTable, caller: u8, other: u8, set: u8, tag: u8) -> HubReply
+pub fn hub_hand(t: HubTable, caller: u8, other: u8, set: u8, tag: u8) -> HubReply
     ensures { result ≡ reply_to t (hand caller other set tag) }
 {
     let table = layout::table_of(t);
@@ -147,8 +138,7 @@ pub extern "C" fn hub_hand(t: HubTable, caller: u8, other: u8, set: u8, tag: u8)
 
 // The records of a list that the caller's S covers go to the front of a lent buffer, in order. A buffer as long as the
 // list has room for all of them.
-#[unsafe(no_mangle)]
-pub extern "C" fn hub_audit(t: HubTable, caller: u8, list: &[u8], out: &mut [u8]) -> HubAudit
+pub fn hub_audit(t: HubTable, caller: u8, list: &[u8], out: &mut [u8]) -> HubAudit
     ensures value { result ≡ audit_answer t caller list.now out.old }
     ensures out_after { out.new ≡ (audited (table_of t) caller list.now out.old).buffer }
 {
@@ -162,16 +152,14 @@ pub extern "C" fn hub_audit(t: HubTable, caller: u8, list: &[u8], out: &mut [u8]
 }
 
 // A table of free slots, without groups.
-#[unsafe(no_mangle)]
-pub extern "C" fn hub_empty() -> HubTable
+pub fn hub_empty() -> HubTable
     ensures { result ≡ struct_of empty_table }
 {
     layout::struct_of(Table::empty())
 }
 
 // The table of a text. The calls of the text are read for their form and not played.
-#[unsafe(no_mangle)]
-pub extern "C" fn hub_load(text: &[u8]) -> HubLoaded
+pub fn hub_load(text: &[u8]) -> HubLoaded
     ensures { result ≡ loaded_as (load_of text.now) }
 {
     let l = load::load(text);
