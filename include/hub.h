@@ -1,7 +1,7 @@
 /*
  * The label monitor of a growers' hub, for C and C++.
  *
- *     rt staticlib hubffi
+ *     tools/archive
  *     gcc -Iinclude program.c target/staticlib/libhubffi.a
  *
  * The archive is for x86-64 Linux. It needs memcpy and memset of the C library and nothing else: it has no state
@@ -30,7 +30,7 @@
  *
  * What is proved: on every table and all bytes each function returns exactly what the rules say of the table that the
  * struct stands for, a refused call hands back the very struct, and of a lent buffer what is said below is all that
- * changes (docs/CLAIMS.md, "From C and Rust"). What is not: that this header declares what crates/hubffi/src/lib.rt
+ * changes (docs/CLAIMS.md, "From C and Rust"). What is not: that this header declares what crates/hubffi_c/src/lib.rt
  * exports, and the compilers. tests/c/header.c tests the first, and tests/run compares the archive with a separately
  * written model.
  */

@@ -1,4 +1,4 @@
-//! Links the archive that `rt staticlib hubffi` writes.
+//! Links the archive that tools/archive makes.
 
 use std::env;
 use std::path::Path;
