@@ -19,7 +19,7 @@ use Rattle.entity.specs.Entity.{entity_as}
 use Rattle.block.specs.Block.{no_block, padded}
 use Rattle.block.proofs.Lists.{block-get}
 use Rattle.block.proofs.Padding.{padded-length, padded-none}
-use Rattle.monitor.specs.Table.{formed, hub}
+use Rattle.monitor.specs.Table.{hub}
 use Rattle.monitor.proofs.Form.{hub_laws, new_entity, new_block}
 use Rattle.claims.specs.Effects.{slot_written, OthersKept, OneSlotWritten, SlotsRead, ReleaseClears}
 use Rattle.claims.proofs.InForm.{read_slot, slots_spelt}

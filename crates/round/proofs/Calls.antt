@@ -23,7 +23,6 @@ use Rattle.monitor.specs.Calls.{reply, buffer_after}
 use Rattle.values.proofs.Laws.{take-bytes}
 use Rattle.callrows.specs.Calls.{show_buffer, CallSaid, call_in, as_call_row}
 use Rattle.callrows.specs.declared.CallRead.{CallRead}
-use Rattle.callrows.specs.declared.CallRead.TheVariants as CallRead
 use Rattle.callrows.specs.declared.CallRow.{CallRow}
 use Rattle.print.specs.Lines.{as_line}
 use Rattle.print.proofs.Laws.{line-most}

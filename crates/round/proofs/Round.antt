@@ -18,16 +18,14 @@ use Rattle.label.specs.Words.{words}
 use Rattle.monitor.specs.declared.Table.{Table}
 use Rattle.monitor.specs.Table.{hub}
 use Rattle.text.specs.Bytes.{index_of}
-use Rattle.text.specs.Lines.{Lines, line, lines_of, line_end, line_at, ahead, fields_in, field_at}
+use Rattle.text.specs.Lines.{Lines, lines_of, line_end, line_at, ahead, fields_in, field_at}
 use Rattle.text.proofs.Laws.{line_ends, line_here, lines_end, next_whole, next_later}
 use Rattle.callrows.specs.Calls.{CallSaid, call_named, uses_of, number_read, value_in, fits, fields_fit, call_from, call_by, call_in, call_of, as_call_row}
 use Rattle.callrows.specs.declared.CallColumns.{CallColumns}
 use Rattle.callrows.specs.declared.CallRead.{CallRead}
-use Rattle.callrows.specs.declared.CallRead.TheVariants as CallRead
 use Rattle.textblocks.specs.declared.Place.{Place}
 use Rattle.textblocks.specs.Blocks.{start, past_empty, groups_at, calls_at, rows_at, is_some, row_good, rows_bad, block_bad, calls_bad, or_else, bad_line}
 use Rattle.textblocks.specs.declared.Block.{Block}
-use Rattle.textblocks.specs.declared.Block.TheVariants as Block
 use Rattle.load.specs.declared.Verdict.{Verdict}
 use Rattle.load.specs.declared.Verdict.TheVariants.{Accepted, Refused}
 use Rattle.load.specs.Load.{verdict_of, load_of}
@@ -37,7 +35,6 @@ use Rattle.textblocks.proofs.Laws.{rows_cut, rows-bad, rows_step}
 use Rattle.chunks.specs.Chunks.{Bounded, onto, chunk_from, chunk, ChunksAdvance}
 use Rattle.chunks.proofs.Chunks.{goes_room, one_taken, none_taken, none_concat, no_piece, chunk_then, chunks_join, chunks_advance}
 use Rattle.round.specs.declared.Made.{Made}
-use Rattle.round.specs.declared.Made.TheVariants as Made
 use Rattle.round.specs.Played.{made_of, played}
 use Rattle.round.specs.Round.{most_of, first_at, call_pieces, answer_line, output_with, output_of, round_of, names_line, OutputRuns, OutputInChunks, RecordsRun}
 use Rattle.round.proofs.Calls.{played_is, piece_most}

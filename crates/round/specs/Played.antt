@@ -10,7 +10,6 @@ use Rattle.label.specs.Words.{words}
 use Rattle.monitor.specs.declared.Table.{Table}
 use Rattle.monitor.specs.Table.{hub}
 use Rattle.callrows.specs.declared.CallRead.{CallRead}
-use Rattle.callrows.specs.declared.CallRead.TheVariants as CallRead
 use Rattle.callrows.specs.declared.CallRow.{CallRow}
 use Rattle.callrows.specs.Calls.{show_buffer}
 use Rattle.print.specs.Lines.{call_line, as_line}

@@ -1,4 +1,3 @@
-use borrow.Author.Rules.{rules}
 use Rattle.monitor.proofs.AuditLaws.{len_room}
 use Rattle.layout.specs.Struct.{table_of}
 use Rattle.hubffi.specs.Answers.{audit_answer}

@@ -1,5 +1,4 @@
-use borrow.Author.Rules.{rules}
-use mathlib.Core.Path.{◌≡◌, refl, ap, ◌∙◌}
+use mathlib.Core.Path.{refl}
 use Rattle.hubffi.proofs.hub_show.Goals as goal
 
 -- `hubffi::hub_show` meets its contract. Assumes nothing.

@@ -1,10 +1,9 @@
-use Prim.Native.Nat.{ℕ, ◌-◌}
-use mathlib.Core.Path.{◌≡◌, refl}
+use mathlib.Core.Path.{refl}
 use native.Mathlib.Omega.{arith}
 use borrow.Author.Rules.{rules}
 use Rattle.rules.proofs.Facts.{length_mapped}
 use Rattle.layout.specs.Struct.{bits_of}
-use Rattle.layout.proofs.Lists.{Mapped, mapped_more, mapped_all}
+use Rattle.layout.proofs.Lists.{mapped_more, mapped_all}
 use Rattle.layout.proofs.bits_of.Goals as goal
 
 pub loop-i-init : goal.loop-i-init

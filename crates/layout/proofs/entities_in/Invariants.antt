@@ -1,10 +1,6 @@
-use Prim.Native.Nat.{ℕ, ◌-◌}
-use mathlib.Core.Path.{◌≡◌, refl}
-use native.Mathlib.Omega.{arith}
-use borrow.Author.Rules.{rules}
-use Rattle.rules.proofs.Facts.{length_mapped}
+use Prim.Native.Nat.{◌-◌}
 use Rattle.layout.specs.Struct.{slot_entity}
-use Rattle.layout.proofs.Lists.{Mapped, mapped_more, mapped_all}
+use Rattle.layout.proofs.Lists.{Mapped}
 use Rattle.layout.proofs.entities_in.Given as goal
 
 -- `layout::entities_in` meets its contract. Assumes nothing.

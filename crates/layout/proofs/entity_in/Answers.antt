@@ -1,4 +1,3 @@
-
 use Rattle.layout.proofs.entity_in.Goals as goal
 
 -- `layout::entity_in` meets its contract. Assumes nothing.

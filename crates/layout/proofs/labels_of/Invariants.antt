@@ -1,10 +1,6 @@
-use Prim.Native.Nat.{ℕ, ◌-◌}
-use mathlib.Core.Path.{◌≡◌, refl}
-use native.Mathlib.Omega.{arith}
-use borrow.Author.Rules.{rules}
-use Rattle.rules.proofs.Facts.{length_mapped}
+use Prim.Native.Nat.{◌-◌}
 use Rattle.label.specs.Tags.{label_of}
-use Rattle.layout.proofs.Lists.{Mapped, mapped_more, mapped_all}
+use Rattle.layout.proofs.Lists.{Mapped}
 use Rattle.layout.proofs.labels_of.Given as goal
 
 -- `layout::labels_of` meets its contract. Assumes nothing.

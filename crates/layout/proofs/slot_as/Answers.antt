@@ -1,4 +1,3 @@
-
 use Rattle.layout.proofs.slot_as.Goals as goal
 
 -- `layout::slot_as` meets its contract. Assumes nothing.

@@ -1,10 +1,6 @@
-use Prim.Native.Nat.{ℕ, ◌-◌}
-use mathlib.Core.Path.{◌≡◌, refl}
-use native.Mathlib.Omega.{arith}
-use borrow.Author.Rules.{rules}
-use Rattle.rules.proofs.Facts.{length_mapped}
+use Prim.Native.Nat.{◌-◌}
 use Rattle.layout.specs.Struct.{slot_as}
-use Rattle.layout.proofs.Lists.{Mapped, mapped_more, mapped_all}
+use Rattle.layout.proofs.Lists.{Mapped}
 use Rattle.layout.proofs.slots_as.Given as goal
 
 -- `layout::slots_as` meets its contract. Assumes nothing.

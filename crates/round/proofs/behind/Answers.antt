@@ -1,5 +1,4 @@
 use borrow.Author.Tests.{lt-ltb, le-ltb}
-use borrow.Author.Rules.{rules}
 use Rattle.round.proofs.behind.Goals as goal
 
 -- `round::behind` meets its contract. Assumes nothing.

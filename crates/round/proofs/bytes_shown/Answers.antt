@@ -1,13 +1,8 @@
 use mathlib.Core.Path.{◌≡◌, refl}
-use mathlib.Core.List.{[], ◌∷◌}
 use Prim.Native.Nat.{ℕ}
-use types.Run.{OneOf, miss}
-use denote.Enum.Declared.{tag_of}
 use Rattle.rules.specs.declared.Call.{Call as Named}
-use Rattle.rules.specs.contracts.Call.{the_type}
 use Rattle.rules.specs.declared.Call.TheVariants.{Put, Show, Send, Fetch, Add, Drop, Create, Release, Hand}
 use Rattle.round.specs.Played.{bytes_shown}
-use borrow.Author.Rules.{rules}
 use Rattle.round.proofs.bytes_shown.Goals as goal
 
 -- `round::bytes_shown` meets its contract. Assumes nothing.

@@ -1,6 +1,5 @@
 use mathlib.Core.Path.{ap, ◌∙◌}
 use Rattle.text.specs.Lines.{next_line}
-use borrow.Author.Rules.{rules}
 use Rattle.round.proofs.first_at.Goals as goal
 
 -- `round::first_at` meets its contract. Assumes nothing.

@@ -5,7 +5,6 @@ use lib.Seq.{take_all}
 use Rattle.print.specs.Lines.{as_line}
 use Rattle.round.specs.declared.Made.{Made}
 use Rattle.round.specs.Played.{made_from}
-use borrow.Author.Rules.{rules}
 use Rattle.round.proofs.line_made.Goals as goal
 
 -- `round::line_made` meets its contract. Assumes nothing.

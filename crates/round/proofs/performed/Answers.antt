@@ -7,7 +7,6 @@ use Rattle.monitor.specs.Calls.{reply, buffer_after}
 use Rattle.print.specs.Lines.{as_line}
 use Rattle.round.specs.Played.{made_from}
 use Rattle.round.proofs.Calls.{played_from, performed_is}
-use borrow.Author.Rules.{rules}
 use Rattle.round.proofs.performed.Goals as goal
 
 -- `round::performed` meets its contract. Assumes nothing.

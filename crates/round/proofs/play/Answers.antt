@@ -2,7 +2,6 @@ use mathlib.Core.Path.{sym, ap, ◌∙◌}
 use lib.ListN.{take}
 use Rattle.callrows.specs.declared.CallRead.{CallRead}
 use Rattle.round.specs.Played.{as_played, played_by}
-use borrow.Author.Rules.{rules}
 use Rattle.round.proofs.play.Goals as goal
 
 -- `round::play` meets its contract. Assumes nothing.

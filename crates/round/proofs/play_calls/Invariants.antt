@@ -1,22 +1,8 @@
-use mathlib.Core.Path.{◌≡◌, sym, ap, ◌∙◌}
-use mathlib.Core.Bool.{cond}
-use mathlib.Core.List.{List}
-use Prim.Native.Nat.{ℕ, ◌+◌, ◌-◌, ◌≤◌}
-use native.Mathlib.Omega.{arith}
-use lib.Dec.{ltb}
+use Prim.Native.Nat.{◌-◌}
 use lib.ListN.{length}
-use borrow.Author.Tests.{leb-true, leb-false, lt-ltb, le-ltb}
-use Rattle.text.specs.Lines.{line_end, next_line}
-use Rattle.text.proofs.Laws.{line_ends, line-part, next_later}
-use Rattle.callrows.specs.declared.CallColumns.{CallColumns}
-use Rattle.callrows.specs.declared.CallRow.{CallRow}
-use Rattle.textblocks.specs.CallsIn.{call_at}
-use Rattle.chunks.proofs.Chunks.{Filling, filling_start, filling_length, filling_more, filling_done, filling_full, line-appended}
-use Rattle.round.specs.declared.Played.{Played}
-use Rattle.round.specs.Played.{as_played, played}
-use Rattle.round.specs.Round.{most_of, played_at, call_pieces}
+use Rattle.chunks.proofs.Chunks.{Filling}
+use Rattle.round.specs.Round.{call_pieces}
 use Rattle.round.proofs.Round.{call_bounded}
-use borrow.Author.Rules.{rules}
 use Rattle.round.proofs.play_calls.Given as goal
 
 -- `round::play_calls` meets its contract. Assumes nothing.

@@ -1,4 +1,3 @@
-use borrow.Author.Rules.{rules}
 use Rattle.round.proofs.unplayed.Goals as goal
 
 -- `round::unplayed` meets its contract. Assumes nothing.
