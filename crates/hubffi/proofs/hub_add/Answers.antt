@@ -1,4 +1,3 @@
-
 use Rattle.hubffi.proofs.hub_add.Goals as goal
 
 -- `hubffi::hub_add` meets its contract. Assumes nothing.

@@ -1,4 +1,3 @@
-
 use Rattle.hubffi.proofs.hub_create.Goals as goal
 
 -- `hubffi::hub_create` meets its contract. Assumes nothing.

@@ -1,4 +1,3 @@
-
 use Rattle.hubffi.proofs.hub_drop.Goals as goal
 
 -- `hubffi::hub_drop` meets its contract. Assumes nothing.

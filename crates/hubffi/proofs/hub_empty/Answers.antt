@@ -1,4 +1,3 @@
-
 use Rattle.hubffi.proofs.hub_empty.Goals as goal
 
 -- `hubffi::hub_empty` meets its contract. Assumes nothing.

@@ -1,4 +1,3 @@
-
 use Rattle.hubffi.proofs.hub_fetch.Goals as goal
 
 -- `hubffi::hub_fetch` meets its contract. Assumes nothing.

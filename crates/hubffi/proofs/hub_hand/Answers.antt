@@ -1,4 +1,3 @@
-
 use Rattle.hubffi.proofs.hub_hand.Goals as goal
 
 -- `hubffi::hub_hand` meets its contract. Assumes nothing.

@@ -1,4 +1,3 @@
-
 use Rattle.hubffi.proofs.hub_put.Goals as goal
 
 -- `hubffi::hub_put` meets its contract. Assumes nothing.

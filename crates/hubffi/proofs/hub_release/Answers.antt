@@ -1,4 +1,3 @@
-
 use Rattle.hubffi.proofs.hub_release.Goals as goal
 
 -- `hubffi::hub_release` meets its contract. Assumes nothing.

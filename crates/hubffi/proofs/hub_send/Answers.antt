@@ -1,4 +1,3 @@
-
 use Rattle.hubffi.proofs.hub_send.Goals as goal
 
 -- `hubffi::hub_send` meets its contract. Assumes nothing.
