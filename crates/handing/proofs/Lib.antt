@@ -1,1 +1,4 @@
 pub mod Share
+pub mod Types
+pub mod HandingInto
+pub mod HandingIntoPlain
