@@ -4,8 +4,8 @@
  *     tools/archive
  *     gcc -Iinclude program.c target/staticlib/libhubffi.a
  *
- * The archive is for x86-64 Linux. It needs memcpy and memset of the C library and nothing else: it has no state
- * of its own, takes no memory from a heap and calls nothing back. Calls may run at the same time.
+ * The archive is for x86-64 Linux. It needs memcpy, memmove and memset of the C library and nothing else: it has no
+ * state of its own, takes no memory from a heap and calls nothing back. Calls may run at the same time.
  *
  * The table is a plain struct that the caller owns. Every function takes it by value and hands the next one back by
  * value, so that no table is changed behind a pointer. To keep one in place:
