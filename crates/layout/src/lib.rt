@@ -149,7 +149,8 @@ fn bits_of(groups: [Label; 8]) -> [u64; 8]
     out
 }
 
-// The table that a struct stands for.
+// The table that a struct stands for. Made in a frame of its own, which spares stack in the calls that follow.
+#[inline(never)]
 pub fn table_of(t: HubTable) -> Table
     ensures { result ≡ table_of t }
 {

@@ -43,6 +43,7 @@ fn row_at<'a>(text: &'a [u8], at: usize) -> &'a [u8]
 }
 
 // The empty table with the groups of the rows at a place.
+#[inline(never)]
 fn group_rows(text: &[u8], from: usize) -> Table
     ensures { result ≡ empty_with (groups_from [] (lines_of (drop from text.now))) }
 {
