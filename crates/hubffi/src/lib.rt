@@ -62,6 +62,29 @@ fn answered(t: HubTable, r: Reply) -> HubReply
     }
 }
 
+// The same in the caller's frame, for show.
+#[inline(always)]
+fn answered_here(t: HubTable, r: Reply) -> HubReply
+    ensures { result ≡ answered t r }
+{
+    let next = r.table;
+    let said = r.answer;
+    let bytes = said.entry;
+    let verdict = said.outcome;
+    match verdict {
+        Outcome::Allowed => HubReply {
+            table: layout::struct_here(next),
+            number: 0,
+            entry: bytes,
+        },
+        Outcome::Refused(n) => HubReply {
+            table: t,
+            number: n,
+            entry: bytes,
+        },
+    }
+}
+
 // 1: given bytes replace the caller's content.
 pub fn hub_put(t: HubTable, caller: u8, bytes: &[u8]) -> HubReply
     ensures { result ≡ reply_to t (put caller bytes.now) }
@@ -77,7 +100,7 @@ pub fn hub_show(t: HubTable, caller: u8, out: &mut [u8]) -> HubReply
 {
     let table = layout::table_of(t);
     let r = table.show_into(caller, &mut *out);
-    answered(t, r)
+    answered_here(t, r)
 }
 
 // 3: the caller's content replaces the other's, if flow from caller to other is allowed.
@@ -155,7 +178,7 @@ pub fn hub_audit(t: HubTable, caller: u8, list: &[u8], out: &mut [u8]) -> HubAud
 pub fn hub_empty() -> HubTable
     ensures { result ≡ struct_of empty_table }
 {
-    layout::struct_of(Table::empty())
+    layout::struct_here(Table::empty())
 }
 
 // The table of a text. The calls of the text are read for their form and not played.
@@ -165,7 +188,7 @@ pub fn hub_load(text: &[u8]) -> HubLoaded
     let l = load::load(text);
     let v = l.verdict;
     HubLoaded {
-        table: layout::struct_of(l.table),
+        table: layout::struct_here(l.table),
         number: load::verdict_number(v),
         line: load::verdict_line(v),
     }

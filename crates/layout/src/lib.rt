@@ -167,6 +167,8 @@ pub fn table_of(t: HubTable) -> Table
     }
 }
 
+// The struct that stands for a table. Made in a frame of its own, as `table_of` is.
+#[inline(never)]
 pub fn struct_of(t: Table) -> HubTable
     ensures { result ≡ struct_of t }
 {
@@ -180,5 +182,23 @@ pub fn struct_of(t: Table) -> HubTable
         content: content,
         groups: groups,
         count: t.count,
+    }
+}
+
+// The same in the caller's frame, for a caller whose own is small: a call of `struct_of` would add to the stack there.
+#[inline(always)]
+pub fn struct_here(table: Table) -> HubTable
+    ensures { result ≡ struct_of table }
+{
+    let held = table.entities;
+    let labels = table.groups;
+    let bytes = table.content;
+    let filled = slots_as(held);
+    let numbers = bits_of(labels);
+    HubTable {
+        slots: filled,
+        content: bytes,
+        groups: numbers,
+        count: table.count,
     }
 }

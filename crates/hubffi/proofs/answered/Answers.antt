@@ -11,10 +11,10 @@ use Rattle.hubffi.proofs.answered.Goals as goal
 
 -- `hubffi::answered` meets its contract. Assumes nothing.
 
-by-outcome : (t s : HubTable) (r : Reply) (o : Outcome) → r.answer.outcome ≡ o → s ≡ on_allowed o (struct_of r.table) t
+pub by_outcome : (t s : HubTable) (r : Reply) (o : Outcome) → r.answer.outcome ≡ o → s ≡ on_allowed o (struct_of r.table) t
     → ◌≡◌ {A = HubReply} (record { table = s; number = number_of o; entry = r.answer.entry }) (answered t r)
 unfolding answered
-by-outcome t s r o e h i = record {
+by_outcome t s r o e h i = record {
   table = (h ∙ ap (λ (v : Outcome). on_allowed v (struct_of r.table) t) (sym e)) i;
   number = ap number_of (sym e) i;
   entry = r.answer.entry;
@@ -22,8 +22,8 @@ by-outcome t s r o e h i = record {
 
 pub returns-in-Allowed : goal.returns-in-Allowed
 returns-in-Allowed c =
-    let a = c.args in by-outcome a.t c.struct_of.result a.r Allowed c.in-Allowed.is c.struct_of.ensures
+    let a = c.args in by_outcome a.t c.struct_of.result a.r Allowed c.in-Allowed.is c.struct_of.ensures
 
 pub returns-in-Refused : goal.returns-in-Refused
 returns-in-Refused c =
-    let a = c.args in by-outcome a.t a.t a.r (Refused c.in-Refused.n) c.in-Refused.is refl
+    let a = c.args in by_outcome a.t a.t a.r (Refused c.in-Refused.n) c.in-Refused.is refl

@@ -6,4 +6,4 @@ use Rattle.hubffi.proofs.hub_load.Goals as goal
 pub returns : goal.returns
 unfolding loaded_as
 returns c =
-    rw (c.verdict_line.ensures, c.verdict_number.ensures, c.struct_of.ensures, c.load-l.ensures)
+    rw (c.verdict_line.ensures, c.verdict_number.ensures, c.struct_here.ensures, c.load-l.ensures)
