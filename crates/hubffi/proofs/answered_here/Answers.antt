@@ -1,6 +1,6 @@
 use mathlib.Core.Path.{refl}
 use Rattle.rules.specs.declared.Outcome.TheVariants.{Allowed, Refused}
-use Rattle.hubffi.proofs.answered.Answers.{by_outcome}
+use Rattle.hubffi.proofs.Outcomes.{by_outcome}
 use Rattle.hubffi.proofs.answered_here.Goals as goal
 
 -- `hubffi::answered_here` meets its contract, as `answered` does. Assumes nothing.
