@@ -1,3 +1,4 @@
+pub mod Numbers
 pub mod Bounded
 pub mod Labels
 pub mod Table

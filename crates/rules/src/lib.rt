@@ -1,11 +1,45 @@
 #![tactic(auto)]
 
+ghost use Rattle.std.specs.Prelude.{◌≡◌};
+ghost use Rattle.rules.specs.Numbers.{number};
+
 // What a slot holds. Free comes first, as the value that definitions give to a read past an array's end.
 #[derive(Clone, Copy)]
 pub enum Kind {
     Free,
     Item,
     Program,
+}
+
+// Why a call, an audit or a text is turned down. Each has its number: records, programs and C give it.
+#[derive(Clone, Copy)]
+pub enum Refusal {
+    NoProgram = 1,
+    OutOfRange = 2,
+    SlotFree = 3,
+    SlotTaken = 4,
+    TooLong = 5,
+    NoRoom = 6,
+    FlowForbidden = 7,
+    NotReleasable = 8,
+    OtherIsItem = 9,
+    NoRight = 10,
+    BreaksGroup = 11,
+    ListNotWhole = 12,
+    NoRoomForRecords = 13,
+    TextTooLong = 14,
+    BadLine = 15,
+    SlotTwice = 16,
+    EntityBreaksGroup = 17,
+    Formless = 99,
+}
+
+impl Refusal {
+    pub fn number(self) -> u8
+        ensures { result ≡ number self }
+    {
+        self as u8
+    }
 }
 
 // What a call or an audit comes to: its work done, or one numbered refusal.
