@@ -3,13 +3,13 @@
 
 ghost use Rattle.std.specs.Prelude.{◌≡◌, take};
 
-use rules::Outcome;
+use rules::Refusal;
 
 // The filled front part of a lent buffer, and the outcome.
 #[derive(Clone, Copy)]
 pub struct Filled<'a> {
     pub part: &'a [u8],
-    pub outcome: Outcome,
+    pub outcome: Result<(), Refusal>,
 }
 
 // The first n bytes, where they stand; all of them where there are fewer.

@@ -42,13 +42,6 @@ impl Refusal {
     }
 }
 
-// What a call or an audit comes to: its work done, or one numbered refusal.
-#[derive(Clone, Copy)]
-pub enum Outcome {
-    Allowed,
-    Refused(u8),
-}
-
 // The nine calls by what each names as one byte: the caller, then the other's slot, the set field and the tag, as far as it
 // uses them. The bytes put and the buffer lent stand beside it.
 #[derive(Clone, Copy)]
