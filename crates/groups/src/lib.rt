@@ -11,14 +11,8 @@ use label::Label;
 pub fn keeps_each(groups: [Label; 8], count: usize, held: Label) -> bool
     ensures { result ≡ keeps_each words (take count groups) held }
 {
-    let n = block::at_most(count, 8);
-    let mut g = 0;
-    while g < n {
-        let group = groups[g];
-        if !label::keeps(group, held) {
-            return false;
-        }
-        g += 1;
-    }
-    true
+    groups
+        .iter()
+        .take(count)
+        .all(|group| label::keeps(*group, held))
 }

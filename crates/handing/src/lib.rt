@@ -16,8 +16,5 @@ pub struct Filled<'a> {
 pub fn front<'a>(all: &'a [u8], n: usize) -> &'a [u8]
     ensures { (result.now ≡ take n all.now) × (result.ref_ptr ≡ all.entry.ref_ptr) }
 {
-    if n <= all.len() {
-        return &all[..n];
-    }
-    all
+    &all[..n.min(all.len())]
 }
