@@ -12,8 +12,8 @@ pub struct Filled<'a> {
     pub outcome: Result<(), Refusal>,
 }
 
-// The first n bytes, where they stand; all of them where there are fewer.
-pub fn front<'a>(all: &'a [u8], n: usize) -> &'a [u8]
+// The first n of some items, where they stand; all of them where there are fewer.
+pub fn front<'a, T>(all: &'a [T], n: usize) -> &'a [T]
     ensures { (result.now ≡ take n all.now) × (result.ref_ptr ≡ all.entry.ref_ptr) }
 {
     &all[..n.min(all.len())]
