@@ -7,7 +7,8 @@ ghost use Rattle.label.specs.Words.{words};
 
 use label::Label;
 
-// Whether who holds so much keeps to the first `count` of eight groups.
+// Whether who holds so much keeps to the first `count` of eight groups. The groups lie in an array with their number beside it,
+// as in the table of fixed size that holds them: there is no heap.
 pub fn keeps_each(groups: [Label; 8], count: usize, held: Label) -> bool
     ensures { result ≡ keeps_each words (take count groups) held }
 {
