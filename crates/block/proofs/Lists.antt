@@ -108,10 +108,6 @@ zero_at content k n = either (ltb k 32)
     (λ e. rw e)
     (λ e. rw (e, drop_of_length-le {A = ℕ} [] {i = n} (omega arith)) (sym (zero-drop n 64)))
 
--- beyond 64 a block has nothing
-pub block_end : (content : List ℕ) (k n : ℕ) → length content ≡ 2048 → 64 ≤ n → drop n (block_at content k) ≡ []
-block_end content k n e h = drop_of_length-le (block_at content k) {i = n} (omega (arith, block-length content k e))
-
 -- the block of the slot that was replaced, and of another
 module _ (c b : List ℕ) (k : ℕ) (hk : k < 32) (hc : length c ≡ 2048) (hb : length b ≡ 64) where
   pub set_length : length (with_block c k b) ≡ 2048

@@ -36,14 +36,6 @@ pub padded-length : (c : List ℕ) → length (padded c) ≡ 64
 unfolding padded
 padded-length c = simp (length-append, length-take, length-replicate) (omega arith)
 
--- only the first 64 bytes count, and 64 bytes are their own block
-pub padded-cut : (c : List ℕ) → padded (take 64 c) ≡ padded c
-unfolding padded
-padded-cut c =
-    let t : take 64 (take 64 c) ≡ take 64 c = take_all 64 (take 64 c) (simp length-take (omega arith)) in
-    let l : 64 - length (take 64 c) ≡ 64 - length c = simp length-take (omega arith) in
-    rw (t, l)
-
 pub padded_full : (b : List ℕ) → length b ≡ 64 → padded b ≡ b
 unfolding padded
 padded_full b h = rw (h, take_all 64 b (omega arith)) (append-nil b)

@@ -11,7 +11,8 @@ ghost use Rattle.entity.specs.Entity.{free_entity, rights_of, bare, entity_as};
 use label::Label;
 use rules::Kind;
 
-// What a slot holds but for its content: S, I, the rights to add to and drop from each, and the content's length.
+// What a slot holds but for its content: S, I, the rights to add to and drop from each, and the content's length. The rights
+// have the rules' names: places in an array would say less plainly which is which.
 #[derive(Clone, Copy)]
 pub struct Entity {
     pub kind: Kind,
@@ -24,6 +25,7 @@ pub struct Entity {
     pub len: usize,
 }
 
+// What a free slot holds, named for what it is: a `Default` would say it less plainly.
 pub fn free_entity() -> Entity
     ensures { result ≡ free_entity }
 {
@@ -100,7 +102,8 @@ impl Entity {
         label::subset(self.sec, other.sec) & label::subset(other.int, self.int)
     }
 
-    // The right to add to the set that a set field names, and to drop from it.
+    // The right to add to the set that a set field names, and to drop from it. Each is one choice of two fields; one function of
+    // both would be no plainer.
     pub fn add_right(self, set: u8) -> Label
         ensures { result ≡ add_right set (rights_of self) }
     {

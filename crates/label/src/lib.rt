@@ -9,6 +9,7 @@ pub struct Label {
     pub bits: u64,
 }
 
+// No tags. It is named for what it is: a `Default` would say no more, and less plainly.
 pub fn empty() -> Label
     ensures { result ≡ empty }
 {
