@@ -5,6 +5,8 @@ use Rattle.std.specs.Prelude.{◌≡◌, true, false, cond, List, [], ◌∷◌,
 use Rattle.rules.specs.declared.Kind.{Kind}
 use Rattle.rules.specs.declared.Kind.TheVariants.{Item, Program}
 use Rattle.std.specs.Prelude.{Ok, Err}
+use Rattle.rules.specs.declared.Refusal.{Refusal}
+use Rattle.rules.specs.declared.Refusal.TheVariants.{NoProgram, NoRoomForRecords}
 use Rattle.rules.specs.Table.{Slot, Tables, Plain, plain, free, accepted}
 use Rattle.rules.specs.Calls.{Call, put, show, send, fetch, add_tag, drop_tag, create, release, hand, caller_of}
 use Rattle.rules.specs.Refusals.{step}
@@ -154,8 +156,8 @@ SecondHolds = Holds second_table second
 abbrev audited : Plain words → List (Line (Plain words)) → ℕ → List ℕ → Audit
 audited t ls i buf = audit P (final (step P) t (calls_made ls)) i (records P t (calls_made ls)) buf
 
-abbrev refused : ℕ → List ℕ → Audit
-refused n buf = record { outcome = Err n; part = []; buffer = buf }
+abbrev refused : Refusal → List ℕ → Audit
+refused r buf = record { outcome = Err r; part = []; buffer = buf }
 
 -- the watering round before a program in slot 3 that bears no tag
 abbrev pub watched_table : Plain words
@@ -169,9 +171,9 @@ pub record AuditsHold : Type 0 where
     buffer = hex "0401000700ffff0001000000000000000501ff000000000001000000000000000401000002ffff0001000000000000000201ff0002ffff0001000000000000000301020700ffff0001000000000000000601ff0a000000000100000000000000eeee";
   }
   -- with one byte too little
-  pub short : audited round_table round 1 (replicate 95 0xee) ≡ refused 13 (replicate 95 0xee)
+  pub short : audited round_table round 1 (replicate 95 0xee) ≡ refused NoRoomForRecords (replicate 95 0xee)
   -- by an item
-  pub item : audited round_table round 2 (replicate 98 0xee) ≡ refused 1 (replicate 98 0xee)
+  pub item : audited round_table round 2 (replicate 98 0xee) ≡ refused NoProgram (replicate 98 0xee)
   -- by one without the tag: no record, so no room is needed
   pub without : audited watched_table round 3 [] ≡ record { outcome = Ok tt; part = []; buffer = [] }
   -- of the second round by slot 0, which has dropped its tag: slot 1's add, the item's refused put, its own show, slot 1's release
@@ -180,7 +182,7 @@ pub record AuditsHold : Type 0 where
     part = hex "0501ff00000c010000000000000000000102ff0100ffff0000000000000000000200ff0003ffff0000000000000000000801010000ffff000000000000000000";
     buffer = hex "0501ff00000c010000000000000000000102ff0100ffff0000000000000000000200ff0003ffff0000000000000000000801010000ffff000000000000000000";
   }
-  pub some_short : audited second_table second 0 (replicate 63 0xee) ≡ refused 13 (replicate 63 0xee)
+  pub some_short : audited second_table second 0 (replicate 63 0xee) ≡ refused NoRoomForRecords (replicate 63 0xee)
 
 -- ---- 'Two runs', at the watering round and tag 0
 
