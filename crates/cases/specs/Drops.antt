@@ -1,8 +1,7 @@
 -- The premise of SecrecyUndropped in document 01's words: what takes a tag from S is an allowed drop that names this tag and set 0.
 -- Assumes nothing.
-use Rattle.std.specs.Prelude.{◌≡◌, true, ℕ, ◌<◌}
+use Rattle.std.specs.Prelude.{◌≡◌, true, ℕ, ◌<◌, Ok}
 use Rattle.std.proofs.Math.Option.{some}
-use Rattle.std.specs.Prelude.{Ok}
 use Rattle.rules.specs.Table.{Tables}
 use Rattle.rules.specs.Calls.{Call, fields_of, kind_of}
 use Rattle.rules.specs.Refusals.{verdict}

@@ -1,10 +1,9 @@
 -- Rounds worked by hand: document 01's watering round, and a second one with calls and refusals that it lacks, put, an allowed drop,
 -- create, release, hand, 1, 3, 4, 8 and 9. Each call with its whole record and the slot that it leaves; and audits at the end.
 -- Assumes nothing.
-use Rattle.std.specs.Prelude.{◌≡◌, true, false, cond, List, [], ◌∷◌, ◌++◌, map, ℕ, eqb, replicate}
+use Rattle.std.specs.Prelude.{◌≡◌, true, false, cond, List, [], ◌∷◌, ◌++◌, map, ℕ, eqb, replicate, Ok, Err}
 use Rattle.rules.specs.declared.Kind.{Kind}
 use Rattle.rules.specs.declared.Kind.TheVariants.{Item, Program}
-use Rattle.std.specs.Prelude.{Ok, Err}
 use Rattle.rules.specs.declared.Refusal.{Refusal}
 use Rattle.rules.specs.declared.Refusal.TheVariants.{NoProgram, NoRoomForRecords}
 use Rattle.rules.specs.Table.{Slot, Tables, Plain, plain, free, accepted}

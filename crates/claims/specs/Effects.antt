@@ -1,7 +1,6 @@
 -- Document 01, 'Nine calls': what an allowed call leaves alone in the struct that runs, and what a release leaves.
 -- Assumes nothing.
-use Rattle.std.specs.Prelude.{◌≡◌, true, false, cond, [], ◌∷◌, ℕ, ◌<◌, eqb, length}
-use Rattle.std.specs.Prelude.{Ok}
+use Rattle.std.specs.Prelude.{◌≡◌, true, false, cond, [], ◌∷◌, ℕ, ◌<◌, eqb, length, Ok}
 use Rattle.rules.specs.Table.{Slot, at}
 use Rattle.rules.specs.ByNumber.{among}
 use Rattle.rules.specs.Calls.{Call, release, kind_of, caller_of, other_of}

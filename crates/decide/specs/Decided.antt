@@ -1,9 +1,9 @@
 -- Document 01, 'When a call is turned down': the rules' refusals, on what a call sees of the table.
 -- Assumes nothing.
-use Rattle.std.specs.Prelude.{ℕ, Bool, cond, not, List, replicate}
+use Rattle.std.specs.Prelude.{ℕ, Bool, cond, not, List, replicate, Ok, Err}
 use Rattle.rules.specs.declared.Refusal.{Refusal}
+use Rattle.rules.specs.declared.Refusal.TheVariants.{NoProgram, Formless}
 use Rattle.rules.specs.Numbers.{Outcome}
-use Rattle.std.specs.Prelude.{Ok, Err}
 use Rattle.rules.specs.Table.{is_program, Slot}
 use Rattle.rules.specs.Calls.{Call}
 use Rattle.rules.specs.Refusals.{Refusals, allow, ◌if◌else◌, first, refusals}
@@ -13,7 +13,6 @@ use Rattle.label.specs.Words.{words}
 use Rattle.entity.specs.declared.Entity.{Entity}
 use Rattle.entity.specs.Entity.{rights_of}
 use Rattle.decide.specs.declared.Seen.{Seen}
-use Rattle.rules.specs.declared.Refusal.TheVariants.{NoProgram, Formless}
 
 -- the slot of an entity, as far as a decision sees it: of its content only the length
 abbrev pub measured : Entity → Slot words

@@ -1,8 +1,8 @@
 -- Document 01, 'The record', on audits, read a second time: an audit's refusals by number and the records that it shows by their
 -- places in the list; and what an audit of a run's own records shows, by the calls of that run.
 -- Assumes nothing.
-use Rattle.std.specs.Prelude.{◌≡◌, Bool, cond, not, ◌&&◌, ◌||◌, List, [], ◌∷◌, ◌++◌, ℕ, zero, suc, ◌+◌, ◌*◌, ◌/◌, ◌≤◌, ltb, eqb, length, get_or, take, drop}
-use Rattle.std.specs.Prelude.{Ok}
+use Rattle.std.specs.Prelude.{◌≡◌, Bool, cond, not, ◌&&◌, ◌||◌, List, [], ◌∷◌, ◌++◌, ℕ, zero, suc, ◌+◌, ◌*◌, ◌/◌, ◌≤◌, ltb, eqb, length, get_or, take, drop, Ok}
+use Rattle.rules.specs.declared.Refusal.TheVariants.{NoProgram, ListNotWhole, NoRoomForRecords, Formless}
 use Rattle.rules.specs.Labels.{Labels}
 use Rattle.rules.specs.Table.{is_free, is_item, Tables, at}
 use Rattle.rules.specs.Calls.{Call, caller_of, other_of}
@@ -10,7 +10,6 @@ use Rattle.rules.specs.Refusals.{Refusals, allow, ◌if◌else◌, first, number
 use Rattle.rules.specs.Record.{answer, visible, audit}
 use Rattle.rules.specs.Runs.{final, trace, records}
 use Rattle.rules.specs.ByNumber.{among}
-use Rattle.rules.specs.declared.Refusal.TheVariants.{NoProgram, ListNotWhole, NoRoomForRecords, Formless}
 
 -- f 0, f 1 and so on, n of them, joined
 unfoldable pub joined : ℕ → (ℕ → List ℕ) → List ℕ

@@ -3,6 +3,7 @@
 -- that move content, the numbers that are listed at all, the calls whose need is empty, the bytes of a record.
 -- Assumes nothing.
 use Rattle.std.specs.Prelude.{◌≡◌, Bool, true, false, cond, not, ◌&&◌, ◌||◌, List, [], ◌∷◌, ◌++◌, ℕ, zero, suc, ltb, eqb, length, get_or, drop}
+use Rattle.rules.specs.declared.Refusal.TheVariants.{NoProgram, OutOfRange, SlotFree, SlotTaken, TooLong, NoRoom, FlowForbidden, NotReleasable, OtherIsItem, NoRight, BreaksGroup, Formless}
 use Rattle.std.proofs.Math.Option.{Option, none, some}
 use Rattle.rules.specs.Labels.{Labels}
 use Rattle.rules.specs.Table.{is_free, is_item, is_program, Rights, Slot, Tables, flow, keeps_all, at}
@@ -10,7 +11,6 @@ use Rattle.rules.specs.Calls.{Call, send, fetch, with_rights, fields_of, kind_of
 use Rattle.rules.specs.Refusals.{Refusals, allow, ◌if◌else◌, first, number_of, refusals, verdict}
 use Rattle.rules.specs.Record.{need_of, moved_by, answer}
 use Rattle.rules.specs.Claims.{listed, audit_listed}
-use Rattle.rules.specs.declared.Refusal.TheVariants.{NoProgram, OutOfRange, SlotFree, SlotTaken, TooLong, NoRoom, FlowForbidden, NotReleasable, OtherIsItem, NoRight, BreaksGroup, Formless}
 
 -- one of these kinds of call: 1 put, 2 show, 3 send, 4 fetch, 5 add, 6 drop, 7 create, 8 release, 9 hand
 abbrev pub among : List ℕ → ℕ → Bool

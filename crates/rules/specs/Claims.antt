@@ -1,7 +1,6 @@
 -- What is claimed of the hub's rules, for the tables T. The proofs are under proofs/, for any labels and tables with the laws.
 -- Assumes nothing.
-use Rattle.std.specs.Prelude.{◌≡◌, Bool, true, false, not, ◌&&◌, ◌||◌, List, [], ℕ, ◌≤◌, ltb, leb, eqb, length, get_or}
-use Rattle.std.specs.Prelude.{Err}
+use Rattle.std.specs.Prelude.{◌≡◌, Bool, true, false, not, ◌&&◌, ◌||◌, List, [], ℕ, ◌≤◌, ltb, leb, eqb, length, get_or, Err}
 use Rattle.rules.specs.declared.Refusal.{Refusal}
 use Rattle.rules.specs.Numbers.{number}
 use Rattle.rules.specs.Labels.{Labels}

@@ -1,16 +1,15 @@
 -- Document 01, 'Nine calls', read a second time: what an allowed call leaves, field by field, a line for each call and set field.
 -- Calls says the same by what is written where.
 -- Assumes nothing.
-use Rattle.std.specs.Prelude.{◌≡◌, ◌≢◌, true, false, List, [], ℕ, ◌≤◌, length, get_or, take}
+use Rattle.std.specs.Prelude.{◌≡◌, ◌≢◌, true, false, List, [], ℕ, ◌≤◌, length, get_or, take, Ok, Err}
+use Rattle.rules.specs.declared.Refusal.TheVariants.{NoRight}
 use Rattle.rules.specs.declared.Kind.{Kind}
 use Rattle.rules.specs.declared.Kind.TheVariants.{Free, Item, Program}
-use Rattle.std.specs.Prelude.{Ok, Err}
 use Rattle.rules.specs.Labels.{Labels}
 use Rattle.rules.specs.Table.{Slot, Tables, at}
 use Rattle.rules.specs.Calls.{Call, put, show, send, fetch, add_tag, drop_tag, create, release, hand}
 use Rattle.rules.specs.Refusals.{verdict, step}
 use Rattle.rules.specs.Record.{answer}
-use Rattle.rules.specs.declared.Refusal.TheVariants.{NoRight}
 
 -- a slot by all that it holds: kind, S, I, the four rights, content
 abbrev pub holding : {A : Labels} → Kind → A.Label → A.Label → A.Label → A.Label → A.Label → A.Label → List ℕ → Slot A

@@ -1,14 +1,13 @@
 -- Document 01, 'When a call is turned down': the refusals of each call in order, and the table after a call.
 -- Assumes nothing.
-use Rattle.std.specs.Prelude.{Bool, true, false, cond, not, ◌&&◌, ◌||◌, List, ℕ, ltb, eqb, length}
+use Rattle.std.specs.Prelude.{Bool, cond, not, ◌&&◌, ◌||◌, List, ℕ, ltb, eqb, length, Ok, Err}
 use Rattle.rules.specs.declared.Refusal.{Refusal}
+use Rattle.rules.specs.declared.Refusal.TheVariants.{NoProgram, OutOfRange, SlotFree, SlotTaken, TooLong, NoRoom, FlowForbidden, NotReleasable, OtherIsItem, NoRight, BreaksGroup, Formless}
 use Rattle.rules.specs.Numbers.{Outcome, number}
-use Rattle.std.specs.Prelude.{Ok, Err}
 use Rattle.rules.specs.Labels.{Labels}
 use Rattle.rules.specs.Table.{is_free, is_item, is_program, Slot, Tables, flow, keeps_all, at}
 use Rattle.rules.specs.Calls.{Call, put, show, send, fetch, add_tag, drop_tag, create, release, hand}
 use Rattle.rules.specs.Calls.{caller_of, other_of, add_right, drop_right, right_at, grant, with_rights, target, written}
-use Rattle.rules.specs.declared.Refusal.TheVariants.{NoProgram, OutOfRange, SlotFree, SlotTaken, TooLong, NoRoom, FlowForbidden, NotReleasable, OtherIsItem, NoRight, BreaksGroup, Formless}
 
 -- Refusals in order, each with its number and its condition. The first that applies is returned, none otherwise
 infixr 20 ◌if◌else◌
@@ -28,9 +27,6 @@ number_of (Err n) = number n
 abbrev pub on_allowed {ℓ} : {X : Type ℓ} → Outcome → X → X → X
 on_allowed (Ok _) x y = x
 on_allowed (Err n) x y = y
-
-abbrev pub is_allowed : Outcome → Bool
-is_allowed v = on_allowed v true false
 
 module _ {A : Labels} where
   -- A call's own refusals, where a is the caller's slot and b the other's; `at` makes a slot above 31 a free one

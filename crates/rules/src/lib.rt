@@ -14,23 +14,41 @@ pub enum Kind {
 // Why a call, an audit or a text is turned down. Each has its number: records, programs and C give it.
 #[derive(Clone, Copy)]
 pub enum Refusal {
+    // The caller's slot is above 31, free or an item.
     NoProgram = 1,
+    // The other's slot is above 31, the tag is above 63, or the set field has no meaning for the call.
     OutOfRange = 2,
+    // The other's slot is free.
     SlotFree = 3,
+    // The slot named for a new entity is not free.
     SlotTaken = 4,
+    // More than 64 bytes are put.
     TooLong = 5,
+    // The buffer lent to a show is shorter than the content.
     NoRoom = 6,
+    // The flow is not allowed.
     FlowForbidden = 7,
+    // What is released is neither the caller nor an item with the caller's S and I.
     NotReleasable = 8,
+    // A right is handed to an item.
     OtherIsItem = 9,
+    // The caller lacks the right.
     NoRight = 10,
+    // The receiver with the new right would break a group.
     BreaksGroup = 11,
+    // The list audited is no whole number of records.
     ListNotWhole = 12,
+    // The records to be shown need more bytes than the lent buffer has.
     NoRoomForRecords = 13,
+    // The text is longer than 65,535 bytes.
     TextTooLong = 14,
+    // A line does not have the form.
     BadLine = 15,
+    // A slot is named by an earlier line too.
     SlotTwice = 16,
+    // An entity of the text breaks a group.
     EntityBreaksGroup = 17,
+    // The table lacks the form; this comes before all others.
     Formless = 99,
 }
 
