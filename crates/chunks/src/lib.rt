@@ -1,4 +1,5 @@
-// Output in chunks: lines, one behind another, in lent buffers.
+// Output in chunks: lines, one behind another, in buffers that the programs lend, since nothing allocates. So a buffer and how
+// far it is filled stand side by side.
 #![tactic(auto)]
 
 ghost use Rattle.std.specs.Prelude.{◌≡◌, length};

@@ -1,7 +1,7 @@
 // Standard input and output, nothing lost without a word.
 //
-// What standard input gives and standard output takes is no fact of the logic. A read that fails because a signal interrupts it counts as failed: the
-// programs catch no signal, so that none does.
+// What standard input gives and standard output takes is no fact of the logic. A read that fails because a signal interrupts
+// it counts as failed: the programs catch no signal, so that none does.
 #![tactic(auto)]
 
 ghost use Rattle.std.specs.Prelude.{◌<◌, ◌≤◌, length, IfOk};
@@ -17,6 +17,7 @@ pub fn fill<R: Read>(input: &mut R, buf: &mut [u8]) -> io::Result<usize>
     ensures whole { IfOk result (λ n. n < length buf.new → IsAtEnd (R.remaining input.new)) }
 {
     let mut done = 0;
+    // No method of Read goes on to the end of an input in a buffer that may be longer or shorter.
     while done < buf.len() {
         let n = input.read(&mut buf[done..])?;
         if n == 0 {
