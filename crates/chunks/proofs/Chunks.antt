@@ -6,28 +6,48 @@ use mathlib.Core.List.{List, [], ◌++◌, append_assoc, append-nil}
 use Prim.Native.Nat.{ℕ, zero, suc, ◌+◌, ◌-◌, ◌≤◌, ◌<◌}
 use native.Mathlib.Omega.{arith}
 use lib.Dec.{leb}
-use lib.ListN.{length, take, length-append}
-use lib.Seq.{sets}
+use lib.ListN.{length, take, drop, length-append}
+use borrow.Rule.Slice.PartMut.{put_mid}
+use lib.Seq.{sets, sets-eq, take_at, drop-append-add, drop-drop}
 use borrow.Author.Tests.{leb-true, leb-false, le-leb, lt-leb}
 use Rattle.rules.specs.Record.{filled}
 use Rattle.rules.proofs.Facts.{and_left, either}
 use Rattle.rules.proofs.Refused.{filled-length}
 use Rattle.chunks.specs.Chunks.{appended, appended_to, Pieces, Bounded, onto, concat_from, concat, chunk_from, chunk, chunks_from, ChunksJoin, ChunksAdvance}
-use Rattle.print.specs.declared.Line.{Line}
-use Rattle.print.specs.Lines.{as_line}
-use Rattle.print.proofs.Laws.{sets_front, line_text}
+use Rattle.std.specs.Prelude.{Some, None}
 
 -- ---- a line behind the first n bytes of a buffer
 
-pub room_behind : (n more len : ℕ) → n ≤ len → leb more (len - n) ≡ leb (n + more) len
-room_behind n more len h =
-    either (leb more (len - n)) (λ e. e ∙ sym (le-leb (n + more) len (omega (arith, leb-true more (len - n) e))))
-    (λ e. e ∙ sym (lt-leb (n + more) len (omega (arith, leb-false more (len - n) e))))
+-- a write to the part from n to e
+pub put_at : (line out : List ℕ) (n e : ℕ) → e ≡ n + length line → e ≤ length out → put_mid n (e - n) out line ≡ sets out n line
+put_at line out n e p h =
+    let k : n + (e - n) ≡ n + length line = omega arith in
+    ap (λ (l : List ℕ). take n out ++ (line ++ l)) (drop-drop (e - n) n out ∙ ap (λ (m : ℕ). drop m out) k)
+    ∙ sym (append_assoc (take n out) line (drop (n + length line) out)) ∙ sym (sets-eq line out n (omega arith))
 
--- where it has room
-pub line-appended : (x : Line) (l out : List ℕ) (n : ℕ) → x ≡ as_line l → n + length l ≤ length out
-    → (appended out n (take x.len x.bytes) ≡ sets out n l) × (appended_to out n (take x.len x.bytes) ≡ n + length l)
-line-appended x l out n e h = let b = le-leb (n + length l) (length out) h in (rw (line_text l e, b) refl, rw (line_text l e, b) refl)
+pub has_room : (line out : List ℕ) (n : ℕ) → n + length line ≤ length out → (appended out n line ≡ sets out n line) × (appended_to out n line ≡ Some (n + length line))
+has_room line out n h = let b = le-leb (n + length line) (length out) h in (rw b refl, rw b refl)
+
+pub no_place : (line out : List ℕ) (n : ℕ) → length out < n + length line → (appended out n line ≡ out) × (appended_to out n line ≡ None)
+no_place line out n h = let b = lt-leb (n + length line) (length out) h in (rw b refl, rw b refl)
+
+-- what the answer says of the room
+pub record Appended (line out : List ℕ) (n e : ℕ) : Type 0 where
+  pub room : n + length line ≤ length out
+  pub after : appended out n line ≡ sets out n line
+  pub end : e ≡ n + length line
+
+pub appended_some : (line out : List ℕ) (n e : ℕ) → Some e ≡ appended_to out n line → Appended line out n e
+appended_some line out n e h =
+    either (leb (n + length line) (length out))
+    (λ b. let r = leb-true (n + length line) (length out) b in let w = has_room line out n r in record { room = r; after = w.0; end = cc })
+    (λ b. let w = no_place line out n (leb-false (n + length line) (length out) b) in cc)
+
+pub appended_none : (line out : List ℕ) (n : ℕ) → None ≡ appended_to out n line → (length out < n + length line) × (appended out n line ≡ out)
+appended_none line out n h =
+    either (leb (n + length line) (length out))
+    (λ b. let w = has_room line out n (leb-true (n + length line) (length out) b) in cc)
+    (λ b. let r = leb-false (n + length line) (length out) b in (r, (no_place line out n r).0))
 
 -- ---- chunks
 
@@ -138,6 +158,14 @@ module _ {S : Type 0} (P : Pieces S) (b : Bounded P) where
   chunks_join room s h = chunks-from room (P.left s) s h (omega arith)
 
 -- ---- a loop that fills a buffer
+
+-- bytes behind a front that fills a buffer
+sets_front : (d x out : List ℕ) → length d + length x ≤ length out → sets (filled d out) (length d) x ≡ filled (d ++ x) out
+sets_front d x out h =
+    let k : length (d ++ x) ≡ length d + length x = length-append d x in
+    sets-eq x (filled d out) (length d) (omega (arith, filled-length d out (omega arith)))
+    ∙ ap₂ (λ (p q : List ℕ). p ++ x ++ q) (take_at d (drop (length d) out) (length d) refl)
+    (drop-append-add d (drop (length d) out) (length x) ∙ drop-drop (length x) (length d) out ∙ ap (λ (n : ℕ). drop n out) (sym k))
 
 -- the pieces before a state are at the buffer's front, n bytes, and with those that have room behind them make the chunk
 pub record Filling {S : Type 0} (P : Pieces S) (b : Bounded P) (start : S) (out₀ out : List ℕ) (n : ℕ) (s : S) : Type 0 where

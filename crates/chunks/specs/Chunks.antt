@@ -1,14 +1,14 @@
 -- Output in pieces, of which a lent buffer takes as many at a time as have room there: a chunk.
 -- Assumes nothing.
-use Rattle.std.specs.Prelude.{ℕ, zero, suc, ◌+◌, ◌-◌, ◌≤◌, ◌<◌, ◌≡◌, Bool, true, cond, ◌&&◌, List, [], ◌++◌, leb, length}
+use Rattle.std.specs.Prelude.{ℕ, zero, suc, ◌+◌, ◌-◌, ◌≤◌, ◌<◌, ◌≡◌, Bool, true, cond, ◌&&◌, List, [], ◌++◌, leb, length, Option, Some, None}
 use Rattle.std.proofs.lemmas.List.Edits.{sets}
 
--- a buffer with bytes behind its first n, and where they end; without room, the buffer as it is, and n
+-- a buffer with bytes behind its first n, and where they end; without room, the buffer as it is, and none
 abbrev pub appended : List ℕ → ℕ → List ℕ → List ℕ
 appended out n l = cond (leb (n + length l) (length out)) (sets out n l) out
 
-abbrev pub appended_to : List ℕ → ℕ → List ℕ → ℕ
-appended_to out n l = cond (leb (n + length l) (length out)) (n + length l) n
+abbrev pub appended_to : List ℕ → ℕ → List ℕ → Option ℕ
+appended_to out n l = cond (leb (n + length l) (length out)) (Some (n + length l)) None
 
 -- From a state on: whether there is a piece, its bytes, the state after it; how many pieces are left at most, and how long
 -- one is at most

@@ -1,40 +1,23 @@
-// Output in chunks: lines, one behind another, in lent buffers.
+// Output in chunks: lines, one behind another, in buffers that the programs lend, since nothing allocates. So a buffer and how
+// far it is filled stand side by side.
 #![tactic(auto)]
 
-ghost use Rattle.std.specs.Prelude.{◌≡◌, ◌+◌, leb, length, take};
+ghost use Rattle.std.specs.Prelude.{◌≡◌, length};
 ghost use Rattle.rules.specs.Record.{filled};
 ghost use Rattle.chunks.specs.Chunks.{appended, appended_to, chunk};
 ghost use Rattle.chunks.specs.Lists.{record_pieces, as_list_chunk};
 
-use print::Line;
-
-// Whether so many bytes have room in a length, behind its first n.
-fn has_room(len: usize, n: usize, more: usize) -> bool
-    ensures { result ≡ leb (n + more) len }
+// A line goes behind the first n bytes of a buffer. Answers where it ends; None where it has no room, and nothing is written.
+pub fn append(line: &[u8], out: &mut [u8], n: usize) -> Option<usize>
+    ensures after { out.new ≡ appended out.old n line.now }
+    ensures value { result ≡ appended_to out.old n line.now }
 {
-    if len < n {
-        return false;
+    let end = n.checked_add(line.len())?;
+    if end > out.len() {
+        return None;
     }
-    more <= len - n
-}
-
-// Bytes go behind the first n bytes of a buffer. Answers where they end; where they have no room, n, and nothing is written.
-fn append_bytes(src: &[u8], out: &mut [u8], n: usize) -> usize
-    ensures { (out.new ≡ appended out.old n src.now) × (result ≡ appended_to out.old n src.now) }
-{
-    if has_room(out.len(), n, src.len()) {
-        copying::copy(src, &mut out[n..]);
-        return n + src.len();
-    }
-    n
-}
-
-// A line goes behind the first n bytes of a buffer, as by append_bytes.
-pub fn append(line: Line, out: &mut [u8], n: usize) -> usize
-    ensures { (out.new ≡ appended out.old n (take line.len line.bytes)) × (result ≡ appended_to out.old n (take line.len line.bytes)) }
-{
-    let bytes = line.bytes;
-    append_bytes(handing::front(&bytes, line.len), out, n)
+    out[n..end].copy_from_slice(line);
+    Some(end)
 }
 
 // A chunk of a list's lines: the place of the next record, and how many bytes of a lent buffer they take.
@@ -50,10 +33,13 @@ pub fn record_lines(list: &[u8], from: usize, out: &mut [u8]) -> ListChunk
     ensures out_after { out.new ≡ filled (chunk (record_pieces list.now) (length out.old) from).0 out.old }
 {
     let mut at = from;
-    let mut n = 0;
-    while has_room(list.len(), at, records::SIZE) && has_room(out.len(), n, 33) {
-        n = append(print::record_line(&list[at..]), out, n);
+    let mut len = 0;
+    for record in list[from.min(list.len())..].chunks_exact(records::SIZE) {
+        let Some(end) = append(&print::record_line(record), out, len) else {
+            break;
+        };
+        len = end;
         at += records::SIZE;
     }
-    ListChunk { at: at, len: n }
+    ListChunk { at, len }
 }

@@ -1,10 +1,7 @@
 -- Document 01, 'A watering round through hubcalls': the lines that the program prints.
 -- Assumes nothing.
-use Rattle.std.specs.Prelude.{ℕ, zero, suc, ◌+◌, ◌/◌, ◌%◌, cond, List, [], ◌∷◌, ◌++◌, length, replicate, ltb}
-use Rattle.std.proofs.lemmas.List.Edits.{sets}
-use Rattle.rules.specs.Record.{filled}
+use Rattle.std.specs.Prelude.{ℕ, zero, suc, ◌+◌, ◌-◌, ◌/◌, ◌%◌, cond, List, [], ◌∷◌, ◌++◌, length, take, ltb}
 use Rattle.text.specs.Ascii.{ascii}
-use Rattle.print.specs.declared.Line.{Line}
 
 -- the lower-case digit of a number below 16
 unfoldable pub digit_text : ℕ → ℕ
@@ -50,18 +47,12 @@ record_line entry = hex_text entry ++ (10 ∷ [])
 unfoldable pub refused_audit : ℕ → List ℕ
 refused_audit n = refused_text ++ (decimal_text n ++ (10 ∷ []))
 
--- ---- what the functions answer
+-- ---- lines as they are put together
 
--- a line in 162 bytes, which a record and 64 bytes shown take, zeros after it
+-- the longest line is that of a record and 64 bytes shown
 abbrev pub line_size : ℕ
 line_size = 162
 
-unfoldable pub blank : List ℕ
-blank = replicate line_size 0
-
-unfoldable pub as_line : List ℕ → Line
-as_line l = record { bytes = filled l blank; len = length l }
-
--- a line with bytes behind it
-abbrev pub line_with : Line → List ℕ → Line
-line_with x l = record { bytes = sets x.bytes x.len l; len = x.len + length l }
+-- a line with bytes behind it, as many as it has room for
+abbrev pub line_with : List ℕ → List ℕ → List ℕ
+line_with x l = x ++ take (line_size - length x) l

@@ -1,145 +1,104 @@
 // The lines that the programs print.
 #![tactic(auto)]
 
-ghost use Rattle.std.specs.Prelude.{◌≡◌, [], ◌∷◌, ◌++◌, ◌+◌, ◌*◌, ◌<◌, ◌≤◌, length, take};
+ghost use Rattle.std.specs.Prelude.{◌≡◌, ◌++◌, ◌<◌, take};
 ghost use Rattle.rules.specs.Record.{record_size};
 ghost use Rattle.label.specs.Words.{words};
-ghost use Rattle.print.specs.Lines.{digit_text, hex_text, data_text, decimal_text, call_line, record_line, refused_text, refused_line, refused_audit, line_size, line_with, as_line};
+ghost use Rattle.print.specs.Lines.{digit_text, hex_text, data_text, decimal_text, call_line, record_line, refused_text, refused_line, refused_audit, line_size, line_with};
 
-// A line: the first len of some bytes. The longest is that of a record and 64 bytes shown.
-#[derive(Clone, Copy)]
-pub struct Line {
-    pub bytes: [u8; 162],
-    pub len: usize,
-}
+use arrayvec::ArrayVec;
 
-fn empty() -> Line
-    ensures { result ≡ as_line [] }
+// A line. The longest is that of a record and 64 bytes shown.
+pub type Line = ArrayVec<u8, 162>;
+
+// The functions from here to with_decimal put something behind a line, as much of it as has room.
+
+fn with_bytes(mut line: Line, src: &[u8]) -> Line
+    ensures { result.items ≡ line_with line.items src.now }
 {
-    Line {
-        bytes: [0u8; 162],
-        len: 0,
-    }
+    let room = line.remaining_capacity();
+    line.try_extend_from_slice(handing::front(src, room))
+        .unwrap();
+    line
 }
 
 fn digit_text(n: u8) -> u8
     requires { n < 16 }
     ensures { result ≡ digit_text n }
 {
-    if n < 10 {
-        return 48 + n;
-    }
-    87 + n
-}
-
-// The functions from here to with_decimal put something behind a line; with_hex also a byte, and with_data byte 10.
-
-fn with_byte(line: Line, b: u8) -> Line
-    requires { line.len < line_size }
-    ensures { result ≡ line_with line (b ∷ []) }
-{
-    let mut bytes = line.bytes;
-    let n = line.len;
-    bytes[n] = b;
-    Line {
-        bytes: bytes,
-        len: n + 1,
+    match n {
+        0..=9 => b'0' + n,
+        _ => b'a' - 10 + n,
     }
 }
 
-fn with_bytes(line: Line, src: &[u8]) -> Line
-    requires { (line.len + length src.now ≤ line_size) × (length line.bytes ≡ line_size) }
-    ensures { result ≡ line_with line src.now }
+// Neither this nor a whole line is written by a Display: no clause of write! says when it succeeds, and these cannot fail.
+fn with_hex(mut line: Line, src: &[u8]) -> Line
+    ensures { result.items ≡ line_with line.items (hex_text src.now) }
 {
-    let mut bytes = line.bytes;
-    let n = line.len;
-    copying::copy(src, &mut bytes[n..]);
-    Line {
-        bytes: bytes,
-        len: n + src.len(),
+    for b in src {
+        line = with_bytes(line, &[digit_text(*b / 16), digit_text(*b % 16)]);
     }
-}
-
-fn with_hex(line: Line, src: &[u8], end: u8) -> Line
-    requires { line.len + length src.now * 2 < line_size }
-    ensures { result ≡ line_with line (hex_text src.now ++ (end ∷ [])) }
-{
-    let mut bytes = line.bytes;
-    let mut k = line.len;
-    let mut i = 0;
-    while i < src.len() {
-        let b = src[i];
-        bytes[k] = digit_text(b / 16);
-        bytes[k + 1] = digit_text(b % 16);
-        k += 2;
-        i += 1;
-    }
-    bytes[k] = end;
-    Line {
-        bytes: bytes,
-        len: k + 1,
-    }
+    line
 }
 
 fn with_data(line: Line, src: &[u8]) -> Line
-    requires { line.len + length (data_text src.now) < line_size }
-    ensures { result ≡ line_with line (data_text src.now ++ (10 ∷ [])) }
+    ensures { result.items ≡ line_with line.items (data_text src.now) }
 {
-    if src.len() == 0 {
-        return with_byte(with_byte(line, 45), 10);
+    if src.is_empty() {
+        return with_bytes(line, b"-");
     }
-    with_hex(line, src, 10)
+    with_hex(line, src)
 }
 
 fn with_decimal(line: Line, n: u64) -> Line
-    requires { line.len + length (decimal_text n) ≤ line_size }
-    ensures { result ≡ line_with line (decimal_text n) }
+    ensures { result.items ≡ line_with line.items (decimal_text n) }
 {
-    if n < 10 {
-        return with_byte(line, 48 + (n as u8));
-    }
-    with_byte(with_decimal(line, n / 10), 48 + ((n % 10) as u8))
+    let mut digits = itoa::Buffer::new();
+    with_bytes(line, digits.format(n).as_bytes())
 }
 
 // Bytes as they are, in the place of a line; of more than a line can hold, its first.
 pub fn line_of(src: &[u8]) -> Line
-    ensures { result ≡ as_line (take line_size src.now) }
+    ensures { result.items ≡ take line_size src.now }
 {
-    with_bytes(empty(), handing::front(src, 162))
+    with_bytes(Line::new(), src)
 }
 
 // The line of a call: its record, and the first n bytes of show's buffer.
 pub fn call_line(entry: [u8; records::SIZE], buffer: [u8; 64], n: usize) -> Line
-    ensures { result ≡ as_line (call_line entry (take n buffer)) }
+    ensures { result.items ≡ call_line entry (take n buffer) }
 {
-    let record = with_hex(empty(), &entry, 32);
-    with_data(record, handing::front(&buffer, n))
+    let record = with_bytes(with_hex(Line::new(), &entry), b" ");
+    let shown = with_data(record, handing::front(&buffer, n));
+    with_bytes(shown, b"\n")
 }
 
 // The line of the record at a slice's front.
 pub fn record_line(src: &[u8]) -> Line
-    ensures { result ≡ as_line (record_line (take (record_size words) src.now)) }
+    ensures { result.items ≡ record_line (take (record_size words) src.now) }
 {
-    with_hex(empty(), handing::front(src, records::SIZE), 10)
+    let record = with_hex(Line::new(), handing::front(src, records::SIZE));
+    with_bytes(record, b"\n")
 }
 
 fn refused(number: u8) -> Line
-    ensures { result ≡ as_line (refused_text ++ decimal_text number) }
+    ensures { result.items ≡ refused_text ++ decimal_text number }
 {
-    with_decimal(line_of(b"refused "), number as u64)
+    with_decimal(line_of(b"refused "), u64::from(number))
 }
 
 // The line of a refused audit.
 pub fn refused_audit(number: u8) -> Line
-    ensures { result ≡ as_line (refused_audit number) }
+    ensures { result.items ≡ refused_audit number }
 {
-    with_byte(refused(number), 10)
+    with_bytes(refused(number), b"\n")
 }
 
 // The line of a refused text.
 pub fn refused_line(number: u8, line: usize) -> Line
-    ensures { result ≡ as_line (refused_line number line) }
+    ensures { result.items ≡ refused_line number line }
 {
     let text = with_bytes(refused(number), b" line ");
-    with_byte(with_decimal(text, line as u64), 10)
+    with_bytes(with_decimal(text, line as u64), b"\n")
 }

@@ -24,18 +24,13 @@ use Rattle.values.proofs.Laws.{take-bytes}
 use Rattle.callrows.specs.Calls.{show_buffer, CallSaid, call_in, as_call_row}
 use Rattle.callrows.specs.declared.CallRead.{CallRead}
 use Rattle.callrows.specs.declared.CallRow.{CallRow}
-use Rattle.print.specs.Lines.{as_line}
-use Rattle.print.proofs.Laws.{line-most}
-use Rattle.round.specs.declared.Made.{Made}
-use Rattle.round.specs.declared.Made.TheVariants.{Lines, Entries}
 use Rattle.round.specs.declared.Played.{Played}
-use Rattle.round.specs.Played.{bytes_shown, made_from, made_of, performed, as_played, played_by, played}
-use Rattle.round.specs.Round.{most_of}
+use Rattle.round.specs.Played.{Making, IsShort, bytes_shown, made_of, performed, as_played, played_by, played}
 
 -- ---- what the code makes of a reply and of the buffer
 
-abbrev pub played_from : Made → Named → Reply → List ℕ → Played
-played_from m c r buffer = record { table = r.table; line = as_line (made_from m r.answer.entry (take (bytes_shown c (get_or r.answer.entry 4 0)) buffer)) }
+abbrev pub played_from : Making → Named → Reply → List ℕ → Played
+played_from m c r buffer = record { table = r.table; line = record { items = m.made r.answer.entry (take (bytes_shown c (get_or r.answer.entry 4 0)) buffer) } }
 
 module _ (t : Table) where
   -- the record's byte 4 is the number of bytes shown, in a show
@@ -50,17 +45,17 @@ module _ (t : Table) where
   len_is (Release i j) bytes = refl
   len_is (Hand i j n p) bytes = refl
 
-  pub performed_is : (m : Made) (c : Named) (bytes : List ℕ) → played_from m c (reply t (call_with c bytes show_buffer)) (buffer_after t c bytes show_buffer) ≡ as_played (performed m t c bytes)
+  pub performed_is : (m : Making) (c : Named) (bytes : List ℕ) → played_from m c (reply t (call_with c bytes show_buffer)) (buffer_after t c bytes show_buffer) ≡ as_played (performed m t c bytes)
   unfolding performed reply buffer_after
   performed_is m c bytes =
       let k = call_with c bytes show_buffer in
       let a = answer hub t k in
       let e = ap (λ (n : ℕ). take n (buffer_after t c bytes show_buffer)) (len_is c bytes) ∙ take-append_seam a.part _ in
-      λ z. record { table = step hub t k; line = as_line (made_from m a.entry (e z)) }
+      λ z. record { table = step hub t k; line = record { items = m.made a.entry (e z) } }
 
   -- ---- the call of a line
 
-  pub played_is : (m : Made) (q : CallSaid) → played m t (as_call_row (some q)) ≡ (made_of m t (call_in q), step hub t (call_in q))
+  pub played_is : (m : Making) (q : CallSaid) → played m t (as_call_row (some q)) ≡ (made_of m t (call_in q), step hub t (call_in q))
   unfolding performed
   played_is m q = ap (performed m t q.call) (take-bytes q.bytes)
 
@@ -78,18 +73,17 @@ lent-most (Create i j n) bytes = omega arith
 lent-most (Release i j) bytes = omega arith
 lent-most (Hand i j n p) bytes = omega arith
 
-module _ (t : Table) where
-  performed-most : (m : Made) (c : Named) (bytes : List ℕ) → length (performed m t c bytes).0 ≤ most_of m
+module _ (t : Table) (m : Making) (s : IsShort m) where
+  performed-most : (c : Named) (bytes : List ℕ) → length (performed m t c bytes).0 ≤ m.most
   unfolding performed
-  performed-most Lines c bytes =
+  performed-most c bytes =
       let k = call_with c bytes show_buffer in
       let a = answer hub t k in
-      line-most a.entry a.part (entry_length words_order hub t k) (omega (arith, (parts_fit hub).call_part t k, lent-most c bytes))
-  performed-most Entries c bytes = omega (arith, entry_length words_order hub t (call_with c bytes show_buffer))
+      s a.entry a.part (entry_length words_order hub t k) (omega (arith, (parts_fit hub).call_part t k, lent-most c bytes))
 
-  pub piece_most : (m : Made) (row : CallRow) → length (played m t row).0 ≤ most_of m
-  piece_most m row = go row.read
+  pub piece_most : (row : CallRow) → length (played m t row).0 ≤ m.most
+  piece_most row = go row.read
     where
-      go : (r : CallRead) → length (played_by m t r (take row.len row.bytes)).0 ≤ most_of m
-      go (CallRead.Call c) = performed-most m c (take row.len row.bytes)
+      go : (r : CallRead) → length (played_by m t r (take row.len row.bytes)).0 ≤ m.most
+      go (CallRead.Call c) = performed-most c (take row.len row.bytes)
       go CallRead.Bad = omega arith

@@ -34,19 +34,19 @@ use Rattle.load.proofs.Accepted.{bad_none}
 use Rattle.textblocks.proofs.Laws.{rows_cut, rows-bad, rows_step}
 use Rattle.chunks.specs.Chunks.{Bounded, onto, chunk_from, chunk, ChunksAdvance}
 use Rattle.chunks.proofs.Chunks.{goes_room, one_taken, none_taken, none_concat, no_piece, chunk_then, chunks_join, chunks_advance}
-use Rattle.round.specs.declared.Made.{Made}
-use Rattle.round.specs.Played.{made_of, played}
-use Rattle.round.specs.Round.{most_of, first_at, call_pieces, answer_line, output_with, output_of, round_of, names_line, OutputRuns, OutputInChunks, RecordsRun}
+use Rattle.round.specs.Played.{Making, lines, entries, IsShort, made_of, played}
+use Rattle.round.specs.Short.{lines_short, entries_short}
+use Rattle.round.specs.Round.{first_at, call_pieces, answer_line, output_with, output_of, round_of, names_line, OutputRuns, OutputInChunks, RecordsRun}
 use Rattle.round.proofs.Calls.{played_is, piece_most}
 
-pub call_bounded : (text : List ℕ) (m : Made) → Bounded (call_pieces text m)
-call_bounded text m = record {
-  fits = λ s. piece_most s.1 m (call_at text (call_columns_in text) s.0);
+pub call_bounded : (text : List ℕ) (m : Making) → IsShort m → Bounded (call_pieces text m)
+call_bounded text m short = record {
+  fits = λ s. piece_most s.1 m short (call_at text (call_columns_in text) s.0);
   fewer = λ s e. let l = ltb-true s.0 (length text) e in omega (arith, next_later text s.0 l);
 }
 
-pub calls_advance : (text : List ℕ) (m : Made) → ChunksAdvance (call_pieces text m)
-calls_advance text m = chunks_advance (call_pieces text m) (call_bounded text m)
+pub calls_advance : (text : List ℕ) (m : Making) → IsShort m → ChunksAdvance (call_pieces text m)
+calls_advance text m short = chunks_advance (call_pieces text m) (call_bounded text m short)
 
 -- ---- a row of calls takes at least six bytes
 
@@ -164,7 +164,7 @@ module _ (text : List ℕ) (e : verdict_of text ≡ Accepted) where
 -- ---- a buffer with room for all rows
 
 -- what a run of calls gives, the table after it, and no line left
-module _ (text : List ℕ) (m : Made) where
+module _ (text : List ℕ) (m : Making) (short : IsShort m) where
   pub record Ran (t : Table) (cs : List (Call words)) (r : List ℕ × (ℕ × Table)) : Type 0 where
     pub bytes : r.0 ≡ trace (step hub) (made_of m) t cs
     pub table : r.1.1 ≡ final (step hub) t cs
@@ -196,16 +196,16 @@ module _ (text : List ℕ) (m : Made) where
   one_ran t c cs x r e q = record { bytes = ap₂ (λ (a b : List ℕ). a ++ b) e q.bytes; table = q.table; all = q.all }
 
   -- so many rows take six bytes of the text each
-  rows_ran : {at : ℕ} → Rows text at → (k q room : ℕ) (t : Table) → length text ≤ at + k → length text ≤ at + 6 * q + 5 → q * most_of m ≤ room
+  rows_ran : {at : ℕ} → Rows text at → (k q room : ℕ) (t : Table) → length text ≤ at + k → length text ≤ at + 6 * q + 5 → q * m.most ≤ room
       → Ran t (calls_from (cols_of text) (lines_of (drop at text))) (chunk_from (call_pieces text m) k room (at, t))
   rows_ran {at} (end h) k q room t u f r = none_ran k room at t h
   rows_ran {at} (row c l w e rs) zero q room t u f r = absurd (omega arith)
   rows_ran {at} (row c l w e rs) (suc k) zero room t u f r = absurd (omega (arith, row_long text at (cols_of text) c e))
   rows_ran {at} (row c l w e rs) (suc k) (suc q) room t u f r =
       let P = call_pieces text m in
-      let s = suc-mul q (most_of m) in
+      let s = suc-mul q (m.most) in
       let d = row_long text at (cols_of text) c e in
-      let z = (call_bounded text m).fits (at, t) in
+      let z = (call_bounded text m short).fits (at, t) in
       let rest = rows_ran rs k q (room - length (P.piece (at, t))) (step hub t (call_in c)) (omega arith) (omega arith) (omega arith) in
       subst (λ (cs : List (Call words)). Ran t cs (chunk_from P (suc k) room (at, t))) (sym (calls_here at t c w e l))
       (subst (Ran t (call_in c ∷ calls_from (cols_of text) (lines_of (drop (line_end text at + 1) text))))
@@ -213,25 +213,25 @@ module _ (text : List ℕ) (m : Made) where
       ∙ ap (λ (u : ℕ × Table). onto (P.piece (at, t)) (chunk_from P k (room - length (P.piece (at, t))) u)) (next_here at t c w e)))
       (one_ran t (call_in c) _ (P.piece (at, t)) _ (ap (λ (x : List ℕ × Table). x.0) (played_here at t c w e)) rest))
 
-  calls_ran : (q room : ℕ) (t : Table) → verdict_of text ≡ Accepted → length text ≤ 6 * q + 5 → q * most_of m ≤ room
+  calls_ran : (q room : ℕ) (t : Table) → verdict_of text ≡ Accepted → length text ≤ 6 * q + 5 → q * m.most ≤ room
       → Ran t (calls_of text) (chunk (call_pieces text m) room (first_at text, t))
   unfolding calls_of
   calls_ran q room t e f r = rows_ran (rows_of text e) (length text - first_at text) q room t (omega arith) (omega arith) r
 
 pub records_run : RecordsRun
 records_run text room t e h =
-    let r = calls_ran text Made.Entries 10922 room t e (omega (arith, text_most text e)) (omega arith) in
+    let r = calls_ran text entries entries_short 10922 room t e (omega (arith, text_most text e)) (omega arith) in
     (r.bytes, r.table, r.all)
 
 -- all lines are one chunk of a buffer that is large enough
 round-runs : (text : List ℕ) → verdict_of text ≡ Accepted → round_of text ≡ trace (step hub) answer_line (load_of text).table (calls_of text)
 round-runs text e =
-    let P = call_pieces text Made.Lines in
+    let P = call_pieces text lines in
     let s : ℕ × Table = (first_at text, (load_of text).table) in
     let c = chunk P (length text * 162) s in
-    let r = calls_ran text Made.Lines (length text) (length text * 162) (load_of text).table e (omega arith) (omega arith) in
+    let r = calls_ran text lines lines_short (length text) (length text * 162) (load_of text).table e (omega arith) (omega arith) in
     ap (λ (x : List ℕ × (ℕ × Table)). x.0)
-    (chunk_then P (call_bounded text Made.Lines) (P.left s) (length text * 162) s (omega arith) ∙ ap (onto c.0) (none_concat P (P.left c.1) c.1 (le-ltb _ _ r.all)))
+    (chunk_then P (call_bounded text lines lines_short) (P.left s) (length text * 162) s (omega arith) ∙ ap (onto c.0) (none_concat P (P.left c.1) c.1 (le-ltb _ _ r.all)))
     ∙ append-nil c.0 ∙ r.bytes
 
 pub output_runs : OutputRuns
@@ -244,4 +244,4 @@ output_runs text = go (verdict_of text) refl
 pub output_in_chunks : OutputInChunks
 output_in_chunks text room h =
     ap (λ (r : List ℕ × (ℕ × Table)). output_with text r.0)
-    (chunks_join (call_pieces text Made.Lines) (call_bounded text Made.Lines) room (first_at text, (load_of text).table) h)
+    (chunks_join (call_pieces text lines) (call_bounded text lines lines_short) room (first_at text, (load_of text).table) h)

@@ -1,10 +1,10 @@
 -- Document 01, 'A watering round through hubcalls': what the program does with one line of calls.
 -- Assumes nothing.
-use Rattle.std.specs.Prelude.{cond, List, [], ℕ, take}
+use Rattle.std.specs.Prelude.{◌≡◌, ◌≤◌, cond, List, [], ℕ, length, take}
 use Rattle.rules.specs.declared.Call.{Call as Named}
 use Rattle.rules.specs.Calls.{Call, is_show}
 use Rattle.rules.specs.Refusals.{step}
-use Rattle.rules.specs.Record.{answer}
+use Rattle.rules.specs.Record.{answer, record_size}
 use Rattle.label.specs.Calls.{call_with}
 use Rattle.label.specs.Words.{words}
 use Rattle.monitor.specs.declared.Table.{Table}
@@ -12,35 +12,45 @@ use Rattle.monitor.specs.Table.{hub}
 use Rattle.callrows.specs.declared.CallRead.{CallRead}
 use Rattle.callrows.specs.declared.CallRow.{CallRow}
 use Rattle.callrows.specs.Calls.{show_buffer}
-use Rattle.print.specs.Lines.{call_line, as_line}
-use Rattle.round.specs.declared.Made.{Made}
-use Rattle.round.specs.declared.Made.TheVariants.{Lines, Entries}
+use Rattle.print.specs.Lines.{call_line, line_size}
 use Rattle.round.specs.declared.Played.{Played}
 
 -- the bytes of a show are those that it moves; another call shows none
 abbrev pub bytes_shown : Named → ℕ → ℕ
 bytes_shown c moved = cond (is_show (call_with c [] [])) moved 0
 
--- what is made of a record and of the bytes shown: the line of both, or the record
-abbrev pub made_from : Made → List ℕ → List ℕ → List ℕ
-made_from Lines entry shown = call_line entry shown
-made_from Entries entry shown = entry
+-- something made of a record and of the bytes shown, and how long it is at most
+pub record Making : Type 0 where
+  pub made : List ℕ → List ℕ → List ℕ
+  pub most : ℕ
+
+-- the line of both
+abbrev pub lines : Making
+lines = record { made = λ entry shown. call_line entry shown; most = line_size }
+
+-- the record
+abbrev pub entries : Making
+entries = record { made = λ entry shown. entry; most = record_size words }
+
+-- so long it is at most, of a record's bytes and of those that a call shows
+abbrev pub IsShort : Making → Type 0
+IsShort m = (entry shown : List ℕ) → length entry ≡ record_size words → length shown ≤ 64 → length (m.made entry shown) ≤ m.most
 
 -- what is made of a call, by the rules
-abbrev pub made_of : Made → Table → Call words → List ℕ
-made_of m t c = made_from m (answer hub t c).entry (answer hub t c).part
+abbrev pub made_of : Making → Table → Call words → List ℕ
+made_of m t c = m.made (answer hub t c).entry (answer hub t c).part
 
 -- a call played on a table: what is made of it, and the next table
-unfoldable pub performed : Made → Table → Named → List ℕ → List ℕ × Table
+unfoldable pub performed : Making → Table → Named → List ℕ → List ℕ × Table
 performed m t c bytes = (made_of m t (call_with c bytes show_buffer), step hub t (call_with c bytes show_buffer))
 
 -- a row played; of one that is no call nothing is made, and the table is as it was
-abbrev pub played_by : Made → Table → CallRead → List ℕ → List ℕ × Table
+abbrev pub played_by : Making → Table → CallRead → List ℕ → List ℕ × Table
 played_by m t (CallRead.Call c) bytes = performed m t c bytes
 played_by m t CallRead.Bad bytes = ([], t)
 
-abbrev pub played : Made → Table → CallRow → List ℕ × Table
+abbrev pub played : Making → Table → CallRow → List ℕ × Table
 played m t row = played_by m t row.read (take row.len row.bytes)
 
 abbrev pub as_played : List ℕ × Table → Played
-as_played r = record { table = r.1; line = as_line r.0 }
+as_played r = record { table = r.1; line = record { items = r.0 } }

@@ -3,7 +3,6 @@
 use Rattle.std.specs.Prelude.{◌≡◌, List, ◌++◌, ℕ, ◌-◌, ◌≤◌, ltb, length}
 use Rattle.rules.specs.Calls.{Call}
 use Rattle.rules.specs.Refusals.{step}
-use Rattle.rules.specs.Record.{record_size}
 use Rattle.rules.specs.Runs.{final, trace, records}
 use Rattle.label.specs.Words.{words}
 use Rattle.monitor.specs.declared.Table.{Table}
@@ -16,34 +15,27 @@ use Rattle.load.specs.Load.{verdict_number, verdict_line, verdict_of, on_accepte
 use Rattle.textblocks.specs.CallsIn.{call_columns_in, calls_of, call_at}
 use Rattle.print.specs.Lines.{line_size, refused_line}
 use Rattle.chunks.specs.Chunks.{Pieces, concat, chunk, chunks}
-use Rattle.round.specs.declared.Made.{Made}
-use Rattle.round.specs.declared.Made.TheVariants.{Lines, Entries}
 use Rattle.round.specs.declared.CallsChunk.{CallsChunk}
-use Rattle.round.specs.Played.{made_of, played}
+use Rattle.round.specs.Played.{Making, lines, entries, made_of, played}
 
 -- ---- by the program's functions
 
 -- the row at a place, played on a table
-abbrev pub played_at : Made → List ℕ → ℕ → Table → List ℕ × Table
+abbrev pub played_at : Making → List ℕ → ℕ → Table → List ℕ × Table
 played_at m text at t = played m t (call_at text (call_columns_in text) at)
-
--- how much is made of a row at most
-abbrev pub most_of : Made → ℕ
-most_of Lines = line_size
-most_of Entries = record_size words
 
 -- the first line of a text's calls
 abbrev pub first_at : List ℕ → ℕ
 first_at text = next_line text (calls_at text).at
 
 -- line after line, from a place on, each played on the table that the one before left
-abbrev pub call_pieces : List ℕ → Made → Pieces (ℕ × Table)
+abbrev pub call_pieces : List ℕ → Making → Pieces (ℕ × Table)
 call_pieces text m = record {
   more = λ s. ltb s.0 (length text);
   piece = λ s. (played_at m text s.0 s.1).0;
   next = λ s. (next_line text s.0, (played_at m text s.0 s.1).1);
   left = λ s. length text - s.0;
-  most = most_of m;
+  most = m.most;
 }
 
 abbrev pub as_calls_chunk : List ℕ × (ℕ × Table) → CallsChunk
@@ -61,14 +53,14 @@ output_with text lines = on_accepted (verdict_of text) (names_line ++ lines) (re
 
 -- the lines of a text's calls, from its table on
 abbrev pub round_of : List ℕ → List ℕ
-round_of text = (concat (call_pieces text Lines) (first_at text, (load_of text).table)).0
+round_of text = (concat (call_pieces text lines) (first_at text, (load_of text).table)).0
 
 abbrev pub output_of : List ℕ → List ℕ
 output_of text = output_with text (round_of text)
 
 -- the line of a call by the rules: its record, and what it shows
 abbrev pub answer_line : Table → Call words → List ℕ
-answer_line = made_of Lines
+answer_line = made_of lines
 
 -- For every text the output is that of the rules' run of its calls from its table
 abbrev pub OutputRuns : Type 0
@@ -77,7 +69,7 @@ OutputRuns = (text : List ℕ) → output_of text ≡ output_with text (trace (s
 -- For every text and every buffer that has room for a line, the chunks one after another make the output
 abbrev pub OutputInChunks : Type 0
 OutputInChunks = (text : List ℕ) (room : ℕ) → line_size ≤ room
-    → output_with text (chunks (call_pieces text Lines) room (first_at text, (load_of text).table)).0 ≡ output_of text
+    → output_with text (chunks (call_pieces text lines) room (first_at text, (load_of text).table)).0 ≡ output_of text
 
 -- ---- the records that hubaudit audits
 
@@ -89,6 +81,6 @@ records_room = 174752
 -- the table is that after it, and no line is left
 abbrev pub RecordsRun : Type 0
 RecordsRun = (text : List ℕ) (room : ℕ) (t : Table) → verdict_of text ≡ Accepted → records_room ≤ room
-    → ((chunk (call_pieces text Entries) room (first_at text, t)).0 ≡ records hub t (calls_of text))
-    × ((chunk (call_pieces text Entries) room (first_at text, t)).1.1 ≡ final (step hub) t (calls_of text))
-    × (length text ≤ (chunk (call_pieces text Entries) room (first_at text, t)).1.0)
+    → ((chunk (call_pieces text entries) room (first_at text, t)).0 ≡ records hub t (calls_of text))
+    × ((chunk (call_pieces text entries) room (first_at text, t)).1.1 ≡ final (step hub) t (calls_of text))
+    × (length text ≤ (chunk (call_pieces text entries) room (first_at text, t)).1.0)

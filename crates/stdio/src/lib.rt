@@ -1,37 +1,31 @@
 // Standard input and output, nothing lost without a word.
 //
-// What is read and written is no fact of the logic. A read that fails because a signal interrupts it counts as failed: the
-// programs catch no signal, so that none does.
+// What standard input gives and standard output takes is no fact of the logic. A read that fails because a signal interrupts
+// it counts as failed: the programs catch no signal, so that none does.
 #![tactic(auto)]
 
-ghost use Rattle.std.specs.Prelude.{length};
-ghost use Rattle.stdio.specs.Input.{Within};
+ghost use Rattle.std.specs.Prelude.{◌<◌, ◌≤◌, length, IfOk};
+ghost use Rattle.std.specs.Io.KnownBytes.{IsAtEnd};
 
+use std::io;
 use std::io::Read;
 
-// What reading came to: the whole input, in so many bytes at the buffer's front; a full buffer, behind which more may come;
-// or a read that failed.
-#[derive(Clone, Copy)]
-pub enum Input {
-    End(usize),
-    Full,
-    Failed,
-}
-
-// Reads standard input into a buffer until it is full, the input ends or a read fails.
-pub fn fill(rt: &HostRuntime, buf: &mut [u8]) -> Input
-    ensures { Within result (length buf.new) }
+// Reads an input into a buffer until that is full, the input ends or a read fails. Answers how many of the buffer's bytes it
+// filled: all of them where the buffer is full, and more may come; fewer only where the input has ended.
+pub fn fill<R: Read>(input: &mut R, buf: &mut [u8]) -> io::Result<usize>
+    ensures within { IfOk result (λ n. n ≤ length buf.new) }
+    ensures whole { IfOk result (λ n. n < length buf.new → IsAtEnd (R.remaining input.new)) }
 {
-    let mut input = rt.stdin();
     let mut done = 0;
+    // No method of Read goes on to the end of an input in a buffer that may be longer or shorter.
     while done < buf.len() {
-        match input.read(&mut buf[done..]) {
-            Err(_) => return Input::Failed,
-            Ok(0) => return Input::End(done),
-            Ok(n) => done += n,
+        let n = input.read(&mut buf[done..])?;
+        if n == 0 {
+            return Ok(done);
         }
+        done += n;
     }
-    Input::Full
+    Ok(done)
 }
 
 // A line on standard error.
@@ -39,12 +33,12 @@ pub fn tell(rt: &HostRuntime, line: &[u8]) {
     let _ = rt.stderr().write_all(line);
 }
 
-// Writes all of some bytes to standard output, and answers whether it could. Where it could not, a front part may have been
-// written, and a line on standard error says so.
-pub fn write(rt: &HostRuntime, bytes: &[u8]) -> bool {
-    if rt.stdout().write_all(bytes).is_ok() {
-        return true;
+// Writes all of some bytes to standard output. Where that fails, a front part may have been written, and a line on standard
+// error says so.
+pub fn write(rt: &HostRuntime, bytes: &[u8]) -> io::Result<()> {
+    let written = rt.stdout().write_all(bytes);
+    if written.is_err() {
+        tell(rt, b"standard output cannot be written\n");
     }
-    tell(rt, b"standard output cannot be written\n");
-    false
+    written
 }

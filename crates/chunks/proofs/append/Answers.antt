@@ -1,9 +1,10 @@
-use mathlib.Core.Path.{ap, ◌∙◌}
-use Rattle.chunks.specs.Chunks.{appended, appended_to}
+use Rattle.std.proofs.Common.{◌≡◌, ap, sym, ◌∙◌, List, ℕ, ◌+◌, ◌-◌, length, arith}
+use borrow.Rule.Slice.PartMut.{put_mid}
+use Rattle.chunks.proofs.Chunks.{put_at, has_room}
 use Rattle.chunks.proofs.append.Goals as goal
 
--- `chunks::append` meets its contract. Assumes nothing.
-
-pub returns : goal.returns
-returns c =
-    let a = c.args in let q = c.front.ensures.0 in (c.append_bytes.ensures.0 ∙ ap (appended a.out.now a.n) q, c.append_bytes.ensures.1 ∙ ap (appended_to a.out.now a.n) q)
+pub returns-clause-after : goal.returns-clause-after
+returns-clause-after c =
+    let a = c.args in let e = c.in_ok-end.end in let line = a.line.now in
+    let k : e ≡ a.n + length line = c.in_ok-end.ensures.1 in
+    ap (λ (l : List ℕ). put_mid a.n (e - a.n) a.out.now l) c.copy_from_slice.ensures.after ∙ put_at line a.out.now a.n e k c.if-end-out.false ∙ sym (has_room line a.out.now a.n (omega (arith, k))).0

@@ -1,58 +1,62 @@
-use mathlib.Core.Path.{refl, sym, ap, ◌∙◌}
-use Prim.Native.Nat.{ℕ, ◌+◌, ◌-◌}
-use native.Mathlib.Omega.{arith}
-use mathlib.Core.List.{List}
-use lib.ListN.{length, take, drop, length-drop}
-use lib.Seq.{take_all}
-use borrow.Author.Tests.{leb-true, leb-false}
-use Rattle.print.specs.Lines.{record_line, as_line}
-use Rattle.chunks.specs.Lists.{record_pieces}
-use Rattle.chunks.proofs.Lists.{record_bounded}
-use Rattle.chunks.proofs.Chunks.{filling_start, filling_length, filling_more, filling_done, filling_full, line-appended}
-use borrow.Author.Rules.{rules}
+use Rattle.std.proofs.Common.{◌≡◌, refl, ap, sym, ◌∙◌, List, ℕ, ◌+◌, ◌<◌, ◌≤◌, ◌++◌, take, drop, length, arith, rules, le-leb, length-append, length-drop, length-take}
+use Rattle.std.proofs.lemmas.Bool.{lt-leb}
+use Rattle.std.proofs.lemmas.List.{take_at, drop_at, take_all, drop-drop, drop_min, take_rest}
+use Rattle.std.specs.Slice.Iter.{chunks_exact_rest}
+use Rattle.std.proofs.Math.Seq.{sets}
+use Rattle.print.specs.Lines.{record_line}
+use Rattle.records.specs.Record.{record_at}
+use Rattle.chunks.proofs.Lists.{line-length}
+use Rattle.chunks.proofs.Chunks.{filling_start, filling_more, filling_done, filling_full, appended_some, appended_none}
 use Rattle.chunks.proofs.record_lines.Goals as goal
 
-pub loop-out-init : goal.loop-out-init
-loop-out-init c = filling_start _ _ _ _
+pub loop-record-init : goal.loop-record-init
+loop-record-init c = record {
+  can = search rules;
+  finite = search rules;
+  size = search rules;
+  rest = ap chunks_exact_rest c.into_iter-record-iterator.ensures.into_iter_gives ∙ c.chunks_exact-record-items.ensures.rest
+      ∙ take_rest c.args.list.now c.min.result ∙ ap (λ (k : ℕ). drop k c.args.list.now) c.min.ensures ∙ drop_min c.args.from c.args.list.now;
+  filling = filling_start _ _ _ _;
+}
 
-pub slice_bounds-record_line-count : goal.slice_bounds-record_line-count
-slice_bounds-record_line-count c = omega (arith, leb-true (c.loop-out.at + 16) (length c.args.list.now) (sym c.has_room.ensures ∙ c.loop-out-test.true))
+pub loop-record-preserved : goal.loop-record-preserved
+loop-record-preserved c =
+    let l = c.loop-record in let list = c.args.list.now in let x = c.in-Some.record.now in let rest = chunks_exact_rest c.next.new.self in
+    let step : drop l.at list ≡ x ++ rest = sym l.invariant.rest ∙ c.in-Some.ensures.steps.1.0 in
+    let size : length x ≡ 16 = c.in-Some.ensures.steps.1.1 ∙ l.invariant.size in
+    let whole : l.at + 16 ≤ length list = omega (arith, ap length step, length-drop l.at list, length-append x rest) in
+    let this : record_at list l.at ≡ x = ap (take 16) step ∙ take_at x rest 16 size in
+    let shown = c.deref.result.now in
+    let line : shown ≡ record_line (record_at list l.at) = c.deref.ensures.0 ∙ c.record_line.ensures ∙ ap record_line (take_all 16 x (omega arith) ∙ sym this) in
+    let most : length shown ≡ 33 = omega (arith, ap length line, line-length (record_at list l.at), ap length this) in
+    let a = appended_some shown l.out l.len c.in-Some-append.end c.in-Some-append.ensures.value in
+    let put = c.append.ensures.after ∙ a.after in
+    record {
+      can = search rules;
+      finite = search rules;
+      size = c.in-Some.ensures.steps.0 ∙ l.invariant.size;
+      rest = sym (ap (drop 16) step ∙ drop_at x rest 16 size) ∙ drop-drop 16 l.at list;
+      filling = filling_more l.invariant.filling (le-leb _ _ whole) (omega (arith, a.room)) (put ∙ ap (sets l.out l.len) line) (a.end ∙ ap (λ (y : List ℕ). l.len + length y) line) refl;
+    }
 
-pub slice_bounds-record_line-start : goal.slice_bounds-record_line-start
-slice_bounds-record_line-start c = omega (arith, leb-true (c.loop-out.at + 16) (length c.args.list.now) (sym c.has_room.ensures ∙ c.loop-out-test.true))
-
-pub overflow_add-at : goal.overflow_add-at
-overflow_add-at c = let h = leb-true (c.loop-out.at + 16) (length c.args.list.now) (sym c.has_room.ensures ∙ c.loop-out-test.true) in search rules
-
-pub loop-out-smaller : goal.loop-out-smaller
-loop-out-smaller c = omega (arith, leb-true (c.loop-out.at + 16) (length c.args.list.now) (sym c.has_room.ensures ∙ c.loop-out-test.true))
-
-pub loop-out-preserved : goal.loop-out-preserved
-loop-out-preserved c =
-    let l = c.loop-out in let x = c.args.list.now in let m = sym c.has_room.ensures ∙ c.loop-out-test.true in
-    let r = leb-true (l.n + 33) (length l.out) (sym c.has_room-in-loop-out.ensures ∙ c.if-has_room.true) in
-    let f = (record_bounded x).fits l.at in
-    let w = line-appended c.record_line.result ((record_pieces x).piece l.at) l.out l.n (c.record_line.ensures ∙ ap (λ (y : List ℕ). as_line (record_line (take 16 y))) (take_all (length x - l.at) (drop l.at x) (omega (arith, length-drop l.at x)))) (omega arith) in
-    filling_more l.invariant m r (c.append-n.ensures.0 ∙ w.0) (c.append-n.ensures.1 ∙ w.1) refl
-
-pub shape_of-out-else-has_room : goal.shape_of-out-else-has_room
-shape_of-out-else-has_room c = filling_length c.loop-out.invariant
-
-pub returns-else-has_room : goal.returns-else-has_room
-returns-else-has_room c =
-    let l = c.loop-out in let e = filling_full l.invariant (leb-false (l.n + 33) (length l.out) (sym c.has_room-in-loop-out.ensures ∙ c.if-has_room.false)) in
+pub returns-in-None : goal.returns-in-None
+returns-in-None c =
+    let l = c.loop-record in let list = c.args.list.now in let s = c.in-None.ensures.steps in
+    let short : length list < l.at + 16 = omega (arith, s.1.0, l.invariant.size, ap length l.invariant.rest, length-drop l.at list) in
+    let e = filling_done l.invariant.filling (lt-leb _ _ short) in
     record {
       value = (λ i. record { at = sym e.state i; len = e.len i });
       out_after = e.held;
     }
 
-pub shape_of-out-after-loop-out : goal.shape_of-out-after-loop-out
-shape_of-out-after-loop-out c = filling_length c.loop-out.invariant
-
-pub returns-after-loop-out : goal.returns-after-loop-out
-returns-after-loop-out c =
-    let e = filling_done c.loop-out.invariant (sym c.has_room.ensures ∙ c.loop-out-test.false) in
+pub returns-in_default : goal.returns-in_default
+returns-in_default c =
+    let l = c.loop-record in let x = c.in-Some.record.now in let shown = c.deref.result.now in
+    let size : length x ≡ 16 = c.in-Some.ensures.steps.1.1 ∙ l.invariant.size in
+    let line : shown ≡ record_line (take 16 x) = c.deref.ensures.0 ∙ c.record_line.ensures in
+    let a = appended_none shown l.out l.len c.in_default.ensures.value in
+    let e = filling_full l.invariant.filling (omega (arith, a.0, ap length line, line-length (take 16 x), length-take 16 x)) in
     record {
       value = (λ i. record { at = sym e.state i; len = e.len i });
-      out_after = e.held;
+      out_after = c.append.ensures.after ∙ a.1 ∙ e.held;
     }

@@ -1,13 +1,11 @@
-use borrow.Author.Tests.{lt-ltb, le-ltb}
+use Rattle.std.proofs.Common.{arith, lt-ltb, le-ltb}
 use Rattle.print.specs.Lines.{digit_text}
 use Rattle.print.proofs.digit_text.Goals as goal
 
--- `print::digit_text` meets its contract. Assumes nothing.
-
-pub returns-then-n-lt10 : goal.returns-then-n-lt10
+pub returns-in-0-to-9 : goal.returns-in-0-to-9
 unfolding digit_text
-returns-then-n-lt10 c = rw (lt-ltb _ _ c.if-n-lt10.true)
+returns-in-0-to-9 c = rw (lt-ltb c.args.n 10 (omega arith))
 
-pub returns : goal.returns
+pub returns-in_default : goal.returns-in_default
 unfolding digit_text
-returns c = rw (le-ltb _ _ c.if-n-lt10.false)
+returns-in_default c = rw (le-ltb c.args.n 10 (omega arith))

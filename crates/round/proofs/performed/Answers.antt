@@ -3,19 +3,20 @@ use mathlib.Core.List.{List}
 use Prim.Native.Nat.{ℕ}
 use lib.ListN.{take}
 use Rattle.label.specs.Calls.{call_with}
+use Rattle.callrows.specs.Calls.{show_buffer}
 use Rattle.monitor.specs.Calls.{reply, buffer_after}
-use Rattle.print.specs.Lines.{as_line}
-use Rattle.round.specs.Played.{made_from}
 use Rattle.round.proofs.Calls.{played_from, performed_is}
 use Rattle.round.proofs.performed.Goals as goal
 
 -- `round::performed` meets its contract. Assumes nothing.
 
 pub returns : goal.returns
-returns c =
-    let a = c.args in let r = c.perform-r.result in let b = c.perform-r.new.out in let l = c.line_made-line.ensures ∙ ap (λ (n : ℕ). as_line (made_from a.made r.answer.entry (take n b))) c.bytes_shown.ensures in
-    (λ z. record { table = r.table; line = l z })
-    ∙ ap₂ (played_from a.made a.call)
-    (c.perform-r.ensures.value ∙ ap₂ (λ (l b : List ℕ). reply a.table (call_with a.call l b)) c.front.ensures.0 c.no_buffer-buffer.ensures)
-    (c.perform-r.ensures.out_after ∙ ap₂ (buffer_after a.table a.call) c.front.ensures.0 c.no_buffer-buffer.ensures)
-    ∙ performed_is a.table a.made a.call _
+unfolding show_buffer
+returns g c =
+    let m = g.M.Made.making in let a = c.args in let r = c.perform-reply.result in let b = c.perform-reply.new.out in
+    let l = c.line-line.ensures ∙ ap (λ (n : ℕ). m.made r.answer.entry (take n b)) c.bytes_shown.ensures in
+    (λ z. record { table = r.table; line = record { items = l z } })
+    ∙ ap₂ (played_from m a.call)
+    (c.perform-reply.ensures.value ∙ ap (λ (l : List ℕ). reply a.table (call_with a.call l show_buffer)) c.front.ensures.0)
+    (c.perform-reply.ensures.out_after ∙ ap (λ (l : List ℕ). buffer_after a.table a.call l show_buffer) c.front.ensures.0)
+    ∙ performed_is a.table m a.call _

@@ -1,0 +1,36 @@
+// What hubcalls and hubaudit do alike: they read a text from standard input, and say so where it cannot be read or is refused.
+#![tactic(auto)]
+
+ghost use Rattle.std.specs.Prelude.{◌≡◌, IfSome};
+ghost use Rattle.load.specs.Load.{load_of};
+
+use load::Verdict;
+use monitor::Table;
+
+// A text that is not refused, and the table that it loads into.
+#[derive(Clone, Copy)]
+pub struct Accepted<'a> {
+    pub text: &'a [u8],
+    pub table: Table,
+}
+
+// Reads a text into a buffer, as much of it as the buffer takes. None where there is no text to go on with, which is then said.
+pub fn read_text<'a>(rt: &HostRuntime, buf: &'a mut [u8]) -> Option<Accepted<'a>>
+    ensures verdict { IfSome result (λ r. (load_of r.text.now).verdict ≡ Verdict.Accepted) }
+    ensures table { IfSome result (λ r. r.table ≡ (load_of r.text.now).table) }
+{
+    let Ok(n) = stdio::fill(&mut rt.stdin(), buf) else {
+        stdio::tell(rt, b"standard input cannot be read\n");
+        return None;
+    };
+    let text = handing::front(buf, n);
+    let loaded = load::load(text);
+    if let Verdict::Refused(number, line) = loaded.verdict {
+        let _said = stdio::write(rt, &print::refused_line(number, line));
+        return None;
+    }
+    Some(Accepted {
+        text,
+        table: loaded.table,
+    })
+}
