@@ -1,9 +1,9 @@
 use Rattle.monitor.proofs.AuditLaws.{len_room}
 use Rattle.layout.specs.Struct.{table_of}
-use Rattle.hubffi.specs.Answers.{audit_answer}
-use Rattle.hubffi.proofs.hub_audit.Goals as goal
+use Rattle.hubffi_c.specs.Answers.{audit_answer}
+use Rattle.hubffi_c.proofs.hub_audit.Goals as goal
 
--- `hubffi::hub_audit` meets its contract. Assumes nothing.
+-- `hubffi_c::hub_audit` meets its contract. Assumes nothing.
 
 pub returns : goal.returns
 unfolding audit_answer

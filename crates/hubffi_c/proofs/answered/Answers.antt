@@ -1,9 +1,9 @@
 use mathlib.Core.Path.{refl}
 use Rattle.rules.specs.declared.Outcome.TheVariants.{Allowed, Refused}
-use Rattle.hubffi.proofs.Outcomes.{by_outcome}
-use Rattle.hubffi.proofs.answered.Goals as goal
+use Rattle.hubffi_c.proofs.Outcomes.{by_outcome}
+use Rattle.hubffi_c.proofs.answered.Goals as goal
 
--- `hubffi::answered` meets its contract. Assumes nothing.
+-- `hubffi_c::answered` meets its contract. Assumes nothing.
 
 pub returns-in-Allowed : goal.returns-in-Allowed
 returns-in-Allowed c =

@@ -5,9 +5,9 @@ use Rattle.rules.specs.declared.Outcome.{Outcome}
 use Rattle.rules.specs.Refusals.{number_of, on_allowed}
 use Rattle.monitor.specs.declared.Reply.{Reply}
 use Rattle.layout.specs.declared.HubTable.{HubTable}
-use Rattle.hubffi.specs.declared.HubReply.{HubReply}
+use Rattle.hubffi_c.specs.declared.HubReply.{HubReply}
 use Rattle.layout.specs.Struct.{struct_of}
-use Rattle.hubffi.specs.Answers.{answered}
+use Rattle.hubffi_c.specs.Answers.{answered}
 
 pub by_outcome : (t s : HubTable) (r : Reply) (o : Outcome) → r.answer.outcome ≡ o → s ≡ on_allowed o (struct_of r.table) t
     → ◌≡◌ {A = HubReply} (record { table = s; number = number_of o; entry = r.answer.entry }) (answered t r)

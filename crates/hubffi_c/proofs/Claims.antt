@@ -20,8 +20,8 @@ use Rattle.layout.specs.Struct.{kinds_known, table_of, struct_of}
 use Rattle.layout.proofs.Claims.{struct_stands}
 use Rattle.load.specs.Load.{load_of}
 use Rattle.load.proofs.Accepted.{loads_accepted}
-use Rattle.hubffi.specs.Answers.{answered, reply_to, audit_answer, loaded_as}
-use Rattle.hubffi.specs.Claims.{CallsAsRules}
+use Rattle.hubffi_c.specs.Answers.{answered, reply_to, audit_answer, loaded_as}
+use Rattle.hubffi_c.specs.Claims.{CallsAsRules}
 
 next : (s : HubTable) (c : Call words) (v : Outcome) → verdict hub (table_of s) c ≡ v
     → table_of (on_allowed v (struct_of (step hub (table_of s) c)) s) ≡ step hub (table_of s) c

@@ -10,9 +10,9 @@ use Rattle.layout.specs.declared.HubTable.{HubTable}
 use Rattle.layout.specs.Struct.{table_of, struct_of}
 use Rattle.load.specs.declared.Loaded.{Loaded}
 use Rattle.load.specs.Load.{verdict_number, verdict_line}
-use Rattle.hubffi.specs.declared.HubReply.{HubReply}
-use Rattle.hubffi.specs.declared.HubAudit.{HubAudit}
-use Rattle.hubffi.specs.declared.HubLoaded.{HubLoaded}
+use Rattle.hubffi_c.specs.declared.HubReply.{HubReply}
+use Rattle.hubffi_c.specs.declared.HubAudit.{HubAudit}
+use Rattle.hubffi_c.specs.declared.HubLoaded.{HubLoaded}
 
 -- a reply on the struct t: the next table, or the struct as it came where the call is refused
 unfoldable pub answered : HubTable → Reply → HubReply

@@ -12,7 +12,7 @@ use Rattle.monitor.specs.Table.{hub}
 use Rattle.layout.specs.declared.HubTable.{HubTable}
 use Rattle.layout.specs.Struct.{kinds_known, table_of}
 use Rattle.load.specs.Load.{verdict_number, verdict_line, verdict_of, load_of}
-use Rattle.hubffi.specs.Answers.{reply_to, audit_answer, loaded_as}
+use Rattle.hubffi_c.specs.Answers.{reply_to, audit_answer, loaded_as}
 
 -- A call on a struct returns the rules' number and record, and the struct of the rules' next table; a refused one hands back
 -- the very struct, whatever its kinds and lengths. So a list of calls on structs is the rules' run, and the claims at the
