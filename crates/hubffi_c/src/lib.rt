@@ -1,5 +1,5 @@
-// The exports of hubffi: the same functions under the same clauses, for C and Rust. A `&[u8]` is a pointer and then a length
-// there; include/hub.h declares what stands here.
+// The monitor for C and Rust: the nine calls, the audit and loading on the struct of a table, which goes in and comes back
+// by value. A `&[u8]` is a pointer and then a length there; include/hub.h declares what stands here.
 #![tactic(auto)]
 
 ghost use Rattle.std.specs.Prelude.{◌≡◌};
@@ -8,17 +8,89 @@ ghost use Rattle.monitor.specs.Table.{empty_table};
 ghost use Rattle.monitor.specs.Calls.{shown_buffer, audited};
 ghost use Rattle.load.specs.Load.{load_of};
 ghost use Rattle.layout.specs.Struct.{table_of, struct_of};
-ghost use Rattle.hubffi.specs.Answers.{reply_to, audit_answer, loaded_as};
+ghost use Rattle.hubffi_c.specs.Answers.{answered, reply_to, audit_answer, loaded_as};
 
-use hubffi::{HubAudit, HubLoaded, HubReply};
 use layout::HubTable;
+use monitor::{Reply, Table};
+use rules::Outcome;
+
+// What a call hands back: the next table, the number returned, and the record.
+#[repr(C)]
+#[derive(Clone, Copy)]
+pub struct HubReply {
+    pub table: HubTable,
+    pub number: u8,
+    pub entry: [u8; records::SIZE],
+}
+
+// What an audit hands back: the number returned, and how many bytes of the buffer it filled.
+#[repr(C)]
+#[derive(Clone, Copy)]
+pub struct HubAudit {
+    pub number: u8,
+    pub len: usize,
+}
+
+// What loading hands back: the table, and 0 and line 0, or the number of the refusal and its line.
+#[repr(C)]
+#[derive(Clone, Copy)]
+pub struct HubLoaded {
+    pub table: HubTable,
+    pub number: u8,
+    pub line: usize,
+}
+
+// A refused call hands back the very struct that came in.
+fn answered(t: HubTable, r: Reply) -> HubReply
+    ensures { result ≡ answered t r }
+{
+    let table = r.table;
+    let answer = r.answer;
+    let entry = answer.entry;
+    let outcome = answer.outcome;
+    match outcome {
+        Outcome::Allowed => HubReply {
+            table: layout::struct_of(table),
+            number: 0,
+            entry,
+        },
+        Outcome::Refused(n) => HubReply {
+            table: t,
+            number: n,
+            entry,
+        },
+    }
+}
+
+// The same over `struct_here`, for show. Over `struct_of` show misses the stack that hub.h promises, over `struct_here` the
+// other calls do, and so does one function that takes the call as a closure: each was tried.
+fn answered_here(t: HubTable, r: Reply) -> HubReply
+    ensures { result ≡ answered t r }
+{
+    let table = r.table;
+    let answer = r.answer;
+    let entry = answer.entry;
+    let outcome = answer.outcome;
+    match outcome {
+        Outcome::Allowed => HubReply {
+            table: layout::struct_here(table),
+            number: 0,
+            entry,
+        },
+        Outcome::Refused(n) => HubReply {
+            table: t,
+            number: n,
+            entry,
+        },
+    }
+}
 
 // 1: given bytes replace the caller's content.
 #[unsafe(no_mangle)]
 pub extern "C" fn hub_put(t: HubTable, caller: u8, bytes: &[u8]) -> HubReply
     ensures { result ≡ reply_to t (put caller bytes.now) }
 {
-    hubffi::hub_put(t, caller, bytes)
+    answered(t, layout::table_of(t).put(caller, bytes))
 }
 
 // 2: the caller's content goes to the front of a lent buffer: as many bytes as byte 4 of the record says.
@@ -27,7 +99,7 @@ pub extern "C" fn hub_show(t: HubTable, caller: u8, out: &mut [u8]) -> HubReply
     ensures value { result ≡ reply_to t (show caller out.old) }
     ensures out_after { out.new ≡ shown_buffer (table_of t) caller out.old }
 {
-    hubffi::hub_show(t, caller, out)
+    answered_here(t, layout::table_of(t).show_into(caller, out))
 }
 
 // 3: the caller's content replaces the other's, if flow from caller to other is allowed.
@@ -35,7 +107,7 @@ pub extern "C" fn hub_show(t: HubTable, caller: u8, out: &mut [u8]) -> HubReply
 pub extern "C" fn hub_send(t: HubTable, caller: u8, other: u8) -> HubReply
     ensures { result ≡ reply_to t (send caller other) }
 {
-    hubffi::hub_send(t, caller, other)
+    answered(t, layout::table_of(t).send(caller, other))
 }
 
 // 4: the other's content replaces the caller's, if flow from other to caller is allowed.
@@ -43,7 +115,7 @@ pub extern "C" fn hub_send(t: HubTable, caller: u8, other: u8) -> HubReply
 pub extern "C" fn hub_fetch(t: HubTable, caller: u8, other: u8) -> HubReply
     ensures { result ≡ reply_to t (fetch caller other) }
 {
-    hubffi::hub_fetch(t, caller, other)
+    answered(t, layout::table_of(t).fetch(caller, other))
 }
 
 // 5: a tag is added to one of the caller's two sets.
@@ -51,7 +123,7 @@ pub extern "C" fn hub_fetch(t: HubTable, caller: u8, other: u8) -> HubReply
 pub extern "C" fn hub_add(t: HubTable, caller: u8, set: u8, tag: u8) -> HubReply
     ensures { result ≡ reply_to t (add_tag caller set tag) }
 {
-    hubffi::hub_add(t, caller, set, tag)
+    answered(t, layout::table_of(t).add_tag(caller, set, tag))
 }
 
 // 6: a tag is dropped from one of the caller's two sets.
@@ -59,7 +131,7 @@ pub extern "C" fn hub_add(t: HubTable, caller: u8, set: u8, tag: u8) -> HubReply
 pub extern "C" fn hub_drop(t: HubTable, caller: u8, set: u8, tag: u8) -> HubReply
     ensures { result ≡ reply_to t (drop_tag caller set tag) }
 {
-    hubffi::hub_drop(t, caller, set, tag)
+    answered(t, layout::table_of(t).drop_tag(caller, set, tag))
 }
 
 // 7: a new entity in a free slot, with the caller's S and I.
@@ -67,7 +139,7 @@ pub extern "C" fn hub_drop(t: HubTable, caller: u8, set: u8, tag: u8) -> HubRepl
 pub extern "C" fn hub_create(t: HubTable, caller: u8, other: u8, set: u8) -> HubReply
     ensures { result ≡ reply_to t (create caller other set) }
 {
-    hubffi::hub_create(t, caller, other, set)
+    answered(t, layout::table_of(t).create(caller, other, set))
 }
 
 // 8: the caller itself, or an item with the caller's S and I, is given up.
@@ -75,7 +147,7 @@ pub extern "C" fn hub_create(t: HubTable, caller: u8, other: u8, set: u8) -> Hub
 pub extern "C" fn hub_release(t: HubTable, caller: u8, other: u8) -> HubReply
     ensures { result ≡ reply_to t (release caller other) }
 {
-    hubffi::hub_release(t, caller, other)
+    answered(t, layout::table_of(t).release(caller, other))
 }
 
 // 9: the other, a program, gains one right that the caller has.
@@ -83,7 +155,7 @@ pub extern "C" fn hub_release(t: HubTable, caller: u8, other: u8) -> HubReply
 pub extern "C" fn hub_hand(t: HubTable, caller: u8, other: u8, set: u8, tag: u8) -> HubReply
     ensures { result ≡ reply_to t (hand caller other set tag) }
 {
-    hubffi::hub_hand(t, caller, other, set, tag)
+    answered(t, layout::table_of(t).hand(caller, other, set, tag))
 }
 
 // The records of a list that the caller's S covers go to the front of a lent buffer, in order. A buffer as long as the
@@ -93,7 +165,13 @@ pub extern "C" fn hub_audit(t: HubTable, caller: u8, list: &[u8], out: &mut [u8]
     ensures value { result ≡ audit_answer t caller list.now out.old }
     ensures out_after { out.new ≡ (audited (table_of t) caller list.now out.old).buffer }
 {
-    hubffi::hub_audit(t, caller, list, out)
+    let table = layout::table_of(t);
+    let n = table.audit_len(caller, list, out.len());
+    let v = table.audit_into(caller, list, &mut *out);
+    HubAudit {
+        number: records::number_of(v),
+        len: n,
+    }
 }
 
 // A table of free slots, without groups.
@@ -101,7 +179,7 @@ pub extern "C" fn hub_audit(t: HubTable, caller: u8, list: &[u8], out: &mut [u8]
 pub extern "C" fn hub_empty() -> HubTable
     ensures { result ≡ struct_of empty_table }
 {
-    hubffi::hub_empty()
+    layout::struct_here(Table::empty())
 }
 
 // The table of a text. The calls of the text are read for their form and not played.
@@ -109,5 +187,11 @@ pub extern "C" fn hub_empty() -> HubTable
 pub extern "C" fn hub_load(text: &[u8]) -> HubLoaded
     ensures { result ≡ loaded_as (load_of text.now) }
 {
-    hubffi::hub_load(text)
+    let l = load::load(text);
+    let v = l.verdict;
+    HubLoaded {
+        table: layout::struct_here(l.table),
+        number: load::verdict_number(v),
+        line: load::verdict_line(v),
+    }
 }

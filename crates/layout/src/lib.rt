@@ -1,14 +1,15 @@
 // The hub's table as C has it, a struct of numbers: the table of a struct, and the struct of a table.
 #![tactic(auto)]
 
-ghost use Rattle.std.specs.Prelude.{◌≡◌, map};
-ghost use Rattle.label.specs.Tags.{label_of};
-ghost use Rattle.layout.specs.Struct.{kind_numbered, kind_number, len_of, slot_entity, slot_as, bits_of, table_of, struct_of};
+ghost use Rattle.std.specs.Prelude.{◌≡◌, ◌<◌, slice_index_or};
+ghost use Rattle.std.specs.List.{AllZip};
+ghost use Rattle.layout.specs.Struct.{slot_entity, slot_as, table_of, struct_of};
 
 use entity::Entity;
 use label::Label;
 use monitor::Table;
 use rules::Kind;
+use std::array;
 
 // What stands in a slot. The kind is 0 for a free slot, 1 for an item, 2 for a program; a table with another kind lacks the
 // form.
@@ -34,135 +35,77 @@ pub struct HubTable {
     pub count: usize,
 }
 
-fn kind_numbered(n: u8) -> Kind
-    ensures { result ≡ kind_numbered n }
-{
-    if n == 1 {
-        return Kind::Item;
-    }
-    if n == 2 {
-        return Kind::Program;
-    }
-    Kind::Free
-}
+impl From<HubSlot> for Entity {
+    ghost from_gives = { λ s e. e ≡ slot_entity s };
 
-fn kind_number(k: Kind) -> u8
-    ensures { result ≡ kind_number k }
-{
-    match k {
-        Kind::Free => 0,
-        Kind::Item => 1,
-        Kind::Program => 2,
-    }
-}
-
-fn len_of(kind: u8, len: usize) -> usize
-    ensures { result ≡ len_of kind len }
-{
-    if 2 < kind { 65 } else { len }
-}
-
-fn entity_in(s: HubSlot) -> Entity
-    ensures { result ≡ slot_entity s }
-{
-    let n = len_of(s.kind, s.len);
-    let k = kind_numbered(s.kind);
-    Entity {
-        kind: k,
-        sec: Label { bits: s.sec },
-        int: Label { bits: s.int },
-        sa: Label { bits: s.sa },
-        sd: Label { bits: s.sd },
-        ia: Label { bits: s.ia },
-        id: Label { bits: s.id },
-        len: n,
+    // A slot of another kind gets a length that no entity has, so that its table lacks the form. No `TryFrom` for the kind: it
+    // and its number are both types of other crates.
+    fn from(s: HubSlot) -> Entity {
+        let (kind, len) = match s.kind {
+            0 => (Kind::Free, s.len),
+            1 => (Kind::Item, s.len),
+            2 => (Kind::Program, s.len),
+            _ => (Kind::Free, 65),
+        };
+        Entity {
+            kind,
+            sec: Label { bits: s.sec },
+            int: Label { bits: s.int },
+            sa: Label { bits: s.sa },
+            sd: Label { bits: s.sd },
+            ia: Label { bits: s.ia },
+            id: Label { bits: s.id },
+            len,
+        }
     }
 }
 
-fn slot_as(e: Entity) -> HubSlot
-    ensures { result ≡ slot_as e }
-{
-    let k = e.kind;
-    HubSlot {
-        kind: kind_number(k),
-        sec: e.sec.bits,
-        int: e.int.bits,
-        sa: e.sa.bits,
-        sd: e.sd.bits,
-        ia: e.ia.bits,
-        id: e.id.bits,
-        len: e.len,
+impl From<Entity> for HubSlot {
+    ghost from_gives = { λ e s. s ≡ slot_as e };
+
+    fn from(e: Entity) -> HubSlot {
+        HubSlot {
+            kind: e.kind as u8,
+            sec: e.sec.bits,
+            int: e.int.bits,
+            sa: e.sa.bits,
+            sd: e.sd.bits,
+            ia: e.ia.bits,
+            id: e.id.bits,
+            len: e.len,
+        }
     }
 }
 
-fn entities_in(slots: [HubSlot; 32]) -> [Entity; 32]
-    ensures { result ≡ map slot_entity slots }
+// An array of what a function gives of each element. An array's own `map` was tried: it misses the stack that hub.h promises.
+fn mapped<A: Copy, B, F: Fn(A) -> B, const N: usize>(xs: [A; N], f: F) -> [B; N]
+    requires { F.IsAlwaysCallable f }
+    ensures { AllZip (λ x y. F.post f x y) xs result }
 {
-    let free = entity::free_entity();
-    let mut out = [free; 32];
-    let mut i = 0;
-    while i < 32 {
-        let s = slots[i];
-        out[i] = entity_in(s);
-        i += 1;
-    }
-    out
+    array::from_fn(
+        |i| -> B
+            requires below { i < N }
+            requires callable { (x : A) → F.pre f x }
+            ensures { (x : A) × (x ≡ slice_index_or xs i x) × F.post f x result }
+        { f(xs[i]) },
+    )
 }
 
-fn slots_as(entities: [Entity; 32]) -> [HubSlot; 32]
-    ensures { result ≡ map slot_as entities }
-{
-    let free = slot_as(entity::free_entity());
-    let mut out = [free; 32];
-    let mut i = 0;
-    while i < 32 {
-        let e = entities[i];
-        out[i] = slot_as(e);
-        i += 1;
-    }
-    out
-}
-
-fn labels_of(groups: [u64; 8]) -> [Label; 8]
-    ensures { result ≡ map label_of groups }
-{
-    let none = label::empty();
-    let mut out = [none; 8];
-    let mut i = 0;
-    while i < 8 {
-        out[i] = Label { bits: groups[i] };
-        i += 1;
-    }
-    out
-}
-
-fn bits_of(groups: [Label; 8]) -> [u64; 8]
-    ensures { result ≡ map bits_of groups }
-{
-    let mut out = [0u64; 8];
-    let mut i = 0;
-    while i < 8 {
-        let l = groups[i];
-        out[i] = l.bits;
-        i += 1;
-    }
-    out
-}
-
-// The table that a struct stands for. Made in a frame of its own, which spares stack in the calls that follow.
+// The table that a struct stands for. Made in a frame of its own, which spares stack in the calls that follow: without, tried,
+// they miss what hub.h promises.
 #[inline(never)]
 pub fn table_of(t: HubTable) -> Table
     ensures { result ≡ table_of t }
 {
     let slots = t.slots;
-    let sets = t.groups;
+    let numbers = t.groups;
     let content = t.content;
-    let entities = entities_in(slots);
-    let groups = labels_of(sets);
+    let entities = mapped(slots, Entity::from);
+    let groups = mapped(numbers, |bits| Label { bits });
     Table {
-        entities: entities,
-        content: content,
-        groups: groups,
+        entities,
+        content,
+        groups,
         count: t.count,
     }
 }
@@ -173,28 +116,28 @@ pub fn struct_of(t: Table) -> HubTable
     ensures { result ≡ struct_of t }
 {
     let entities = t.entities;
-    let sets = t.groups;
+    let labels = t.groups;
     let content = t.content;
-    let slots = slots_as(entities);
-    let groups = bits_of(sets);
+    let slots = mapped(entities, HubSlot::from);
+    let groups = mapped(labels, |l| l.bits);
     HubTable {
-        slots: slots,
-        content: content,
-        groups: groups,
+        slots,
+        content,
+        groups,
         count: t.count,
     }
 }
 
-// The same in the caller's frame, for a caller whose own is small: a call of `struct_of` would add to the stack there.
-#[inline(always)]
+// The same with no frame of its own, for a caller whose own is small. One of the two alone, and `struct_of` calling this one,
+// miss the stack that hub.h promises: each was tried.
 pub fn struct_here(table: Table) -> HubTable
     ensures { result ≡ struct_of table }
 {
     let held = table.entities;
     let labels = table.groups;
     let bytes = table.content;
-    let filled = slots_as(held);
-    let numbers = bits_of(labels);
+    let filled = mapped(held, HubSlot::from);
+    let numbers = mapped(labels, |l| l.bits);
     HubTable {
         slots: filled,
         content: bytes,

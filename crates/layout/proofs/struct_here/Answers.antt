@@ -1,8 +1,14 @@
-use Rattle.layout.specs.Struct.{struct_of}
+use borrow.Author.Rules.{rules}
+use Rattle.layout.specs.Struct.{slot_as, bits_of, struct_of}
+use Rattle.layout.proofs.Lists.{map_of}
 use Rattle.layout.proofs.struct_here.Goals as goal
 
 -- `layout::struct_here` meets its contract. Assumes nothing.
 
 pub returns : goal.returns
 unfolding struct_of
-returns c = rw (c.bits_of-numbers.ensures, c.slots_as-filled.ensures)
+returns c =
+    rw (
+      map_of _ slot_as c.args.table.entities c.mapped-filled.result (λ x y p. search rules) c.mapped-filled.ensures,
+      map_of _ bits_of c.args.table.groups c.mapped-numbers.result (λ x y p. search rules) c.mapped-numbers.ensures,
+    )

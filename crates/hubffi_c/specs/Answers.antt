@@ -1,0 +1,35 @@
+-- What the exported functions return, by what the monitor and loading promise of the table that a struct stands for.
+-- Assumes nothing.
+use Rattle.std.specs.Prelude.{ℕ, List, length}
+use Rattle.rules.specs.Calls.{Call}
+use Rattle.rules.specs.Refusals.{number_of, on_allowed}
+use Rattle.label.specs.Words.{words}
+use Rattle.monitor.specs.declared.Reply.{Reply}
+use Rattle.monitor.specs.Calls.{reply, audited}
+use Rattle.layout.specs.declared.HubTable.{HubTable}
+use Rattle.layout.specs.Struct.{table_of, struct_of}
+use Rattle.load.specs.declared.Loaded.{Loaded}
+use Rattle.load.specs.Load.{verdict_number, verdict_line}
+use Rattle.hubffi_c.specs.declared.HubReply.{HubReply}
+use Rattle.hubffi_c.specs.declared.HubAudit.{HubAudit}
+use Rattle.hubffi_c.specs.declared.HubLoaded.{HubLoaded}
+
+-- a reply on the struct t: the next table, or the struct as it came where the call is refused
+unfoldable pub answered : HubTable → Reply → HubReply
+answered t r = record {
+  table = on_allowed r.answer.outcome (struct_of r.table) t;
+  number = number_of r.answer.outcome;
+  entry = r.answer.entry;
+}
+
+abbrev pub reply_to : HubTable → Call words → HubReply
+reply_to t c = answered t (reply (table_of t) c)
+
+unfoldable pub audit_answer : HubTable → ℕ → List ℕ → List ℕ → HubAudit
+audit_answer t i list buf = record {
+  number = number_of (audited (table_of t) i list buf).outcome;
+  len = length (audited (table_of t) i list buf).part;
+}
+
+unfoldable pub loaded_as : Loaded → HubLoaded
+loaded_as l = record { table = struct_of l.table; number = verdict_number l.verdict; line = verdict_line l.verdict }

@@ -1,0 +1,33 @@
+-- Calls on structs are the rules' own on the tables that they stand for.
+-- Assumes nothing.
+use Rattle.std.specs.Prelude.{ℕ, ◌≡◌, true, false, List, length}
+use Rattle.rules.specs.declared.Outcome.TheVariants.{Refused}
+use Rattle.rules.specs.Table.{accepted}
+use Rattle.rules.specs.Calls.{Call}
+use Rattle.rules.specs.Refusals.{number_of, verdict, step}
+use Rattle.rules.specs.Record.{answer, audit}
+use Rattle.rules.specs.Runs.{final}
+use Rattle.label.specs.Words.{words}
+use Rattle.monitor.specs.Table.{hub}
+use Rattle.layout.specs.declared.HubTable.{HubTable}
+use Rattle.layout.specs.Struct.{kinds_known, table_of}
+use Rattle.load.specs.Load.{verdict_number, verdict_line, verdict_of, load_of}
+use Rattle.hubffi_c.specs.Answers.{reply_to, audit_answer, loaded_as}
+
+-- A call on a struct returns the rules' number and record, and the struct of the rules' next table; a refused one hands back
+-- the very struct, whatever its kinds and lengths. So a list of calls on structs is the rules' run, and the claims at the
+-- hub's table hold of it. Another kind is refused by 99. A loaded struct is that of an accepted table.
+pub record CallsAsRules : Type 0 where
+  pub table : (s : HubTable) (c : Call words) → table_of (reply_to s c).table ≡ step hub (table_of s) c
+  pub number : (s : HubTable) (c : Call words) → (reply_to s c).number ≡ number_of (answer hub (table_of s) c).outcome
+  pub entry : (s : HubTable) (c : Call words) → (reply_to s c).entry ≡ (answer hub (table_of s) c).entry
+  pub refused : (s : HubTable) (c : Call words) (n : ℕ) → verdict hub (table_of s) c ≡ Refused n → (reply_to s c).table ≡ s
+  pub runs : (s : HubTable) (cs : List (Call words)) → table_of (final (λ u c. (reply_to u c).table) s cs) ≡ final (step hub) (table_of s) cs
+  pub unknown : (s : HubTable) (c : Call words) → kinds_known s.slots ≡ false → ((reply_to s c).table ≡ s) × ((reply_to s c).number ≡ 99)
+  pub unknown_audit : (s : HubTable) (i : ℕ) (list buf : List ℕ) → kinds_known s.slots ≡ false → (audit_answer s i list buf).number ≡ 99
+  pub audit_number : (s : HubTable) (i : ℕ) (list buf : List ℕ) → (audit_answer s i list buf).number ≡ number_of (audit hub (table_of s) i list buf).outcome
+  pub audit-len : (s : HubTable) (i : ℕ) (list buf : List ℕ) → (audit_answer s i list buf).len ≡ length (audit hub (table_of s) i list buf).part
+  pub loads : (text : List ℕ) → table_of (loaded_as (load_of text)).table ≡ (load_of text).table
+  pub loaded_number : (text : List ℕ) → (loaded_as (load_of text)).number ≡ verdict_number (verdict_of text)
+  pub loaded_line : (text : List ℕ) → (loaded_as (load_of text)).line ≡ verdict_line (verdict_of text)
+  pub loaded : (text : List ℕ) → accepted hub (table_of (loaded_as (load_of text)).table) ≡ true
