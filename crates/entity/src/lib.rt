@@ -49,7 +49,8 @@ pub fn free_unless(test: bool, e: Entity) -> Entity
     if test { e } else { free_entity() }
 }
 
-// What create's set field names: 1 an item, 2 a program.
+// What create's set field names: 1 an item, 2 a program. It answers every number, and is no `TryFrom`, since a create makes its
+// entity before it is known whether the call is allowed.
 pub fn new_kind(set: u8) -> Kind
     ensures { result ≡ new_kind set }
 {

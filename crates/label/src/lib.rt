@@ -105,7 +105,7 @@ pub fn choose(test: bool, a: Label, b: Label) -> Label
     if test { a } else { b }
 }
 
-// The tags as eight bytes, tags 0 to 7 in the first.
+// The tags as eight bytes, tags 0 to 7 in the first. Named as std names a number's bytes: a `From` would not say their order.
 pub fn to_bytes(l: Label) -> [u8; 8]
     ensures { result ≡ bytes_of l }
 {
