@@ -2,10 +2,10 @@
 #![tactic(auto)]
 
 ghost use Rattle.std.specs.Prelude.{◌≡◌, [], Ok};
-ghost use Rattle.std.specs.Result.{result_and};
-ghost use Rattle.textblocks.specs.Blocks.{lines_at};
-ghost use Rattle.load.specs.Tables.{groups_from, empty_with, none_stored, fill, groups_in, entities_in, table_in};
-ghost use Rattle.load.specs.Load.{verdict_number, verdict_line, refuse_at, verdict_of, load_of};
+ghost use Rattle.rules.specs.declared.Refusal.TheVariants.{BadLine, SlotTwice, EntityBreaksGroup};
+ghost use Rattle.textblocks.specs.Blocks.{lines_at, bad_line};
+ghost use Rattle.load.specs.Tables.{groups_from, empty_with, none_stored, fill, groups_in, entities_in};
+ghost use Rattle.load.specs.Load.{verdict_number, verdict_line, refuse_at, loaded_with, load_of};
 
 use monitor::Table;
 use rows::EntityColumns;
@@ -35,7 +35,7 @@ pub struct Loaded {
     pub table: Table,
 }
 
-// The empty table with the groups of rows.
+// The empty table with the groups of rows. Not inlined, which would leave its tables on the stack that C is promised.
 #[inline(never)]
 fn group_rows(rows: Rest<'_>) -> Table
     ensures { result ≡ empty_with (groups_from [] (lines_at rows.entry.text.now rows.entry.place.at)) }
@@ -115,37 +115,41 @@ fn refuse_at(refusal: Refusal, line: Option<usize>) -> Result<(), Fault>
     }
 }
 
-// The table of a text that is not refused.
-fn table_in(text: &[u8]) -> Result<Table, Fault>
-    ensures { result ≡ result_and (verdict_of text.now) (Ok (table_in text.now)) }
+// What the checks of a text that is not too long say, in their order.
+fn verdict(text: &[u8], twice: Option<usize>, breaks: Option<usize>) -> Result<(), Fault>
+    ensures { result ≡ refuse_at BadLine (bad_line text.now) (refuse_at SlotTwice twice (refuse_at EntityBreaksGroup breaks (Ok tt))) }
 {
-    if 65535 < text.len() {
-        return Err(Fault {
-            refusal: Refusal::TextTooLong,
-            line: 0,
-        });
-    }
     refuse_at(Refusal::BadLine, textblocks::bad_line(text))?;
-    let entities = entities_in(text);
-    refuse_at(Refusal::SlotTwice, entities.twice)?;
-    refuse_at(Refusal::EntityBreaksGroup, entities.breaks)?;
-    Ok(entities.table)
+    refuse_at(Refusal::SlotTwice, twice)?;
+    refuse_at(Refusal::EntityBreaksGroup, breaks)
+}
+
+// A verdict with its table, the empty one where the text is refused. A `Result` of the table would take a third more stack
+// than C is promised.
+fn loaded_with(verdict: Result<(), Fault>, table: Table) -> Loaded
+    ensures { result ≡ loaded_with verdict table }
+{
+    match verdict {
+        Ok(()) => Loaded { verdict, table },
+        Err(_) => {
+            let table = Table::empty();
+            Loaded { verdict, table }
+        }
+    }
 }
 
 // Loads a text.
 pub fn load(text: &[u8]) -> Loaded
     ensures { result ≡ load_of text.now }
 {
-    match table_in(text) {
-        Ok(table) => Loaded {
-            verdict: Ok(()),
-            table,
-        },
-        Err(fault) => Loaded {
-            verdict: Err(fault),
-            table: Table::empty(),
-        },
+    if 65535 < text.len() {
+        let refusal = Refusal::TextTooLong;
+        return loaded_with(Err(Fault { refusal, line: 0 }), Table::empty());
     }
+    let entities = entities_in(text);
+    let verdict = verdict(text, entities.twice, entities.breaks);
+    let table = entities.table;
+    loaded_with(verdict, table)
 }
 
 // The number that a verdict returns; 0 where the text is accepted.

@@ -1,27 +1,21 @@
-use Rattle.std.proofs.Common.{◌≡◌, ◌∙◌, refl, sym, Ok, Err}
-use Rattle.std.specs.Result.{result_and}
-use Rattle.monitor.specs.declared.Table.{Table}
-use Rattle.load.specs.declared.Fault.{Fault}
+use Rattle.std.proofs.Common.{◌∙◌, ap, ap₂, Ok}
+use borrow.Author.Tests.{lt-ltb, le-ltb}
+use Rattle.rules.specs.declared.Refusal.TheVariants.{BadLine, SlotTwice, EntityBreaksGroup}
+use Rattle.textblocks.specs.Blocks.{bad_line}
+use Rattle.load.specs.declared.Stored.{Stored}
 use Rattle.load.specs.Tables.{table_in}
-use Rattle.load.specs.Load.{Verdict, verdict_of, load_of}
+use Rattle.load.specs.Load.{refuse_at, verdict_of, loaded_with, load_of}
 use Rattle.load.proofs.load.Goals as goal
 
 -- `load::load` meets its contract. Assumes nothing.
 
-accepted : (v : Verdict) (t u : Table) → result_and v (Ok t) ≡ Ok u → (v ≡ Ok tt) × (t ≡ u)
-accepted (Ok tt) t u e = (refl, cc)
-accepted (Err f) t u e = absurd cc
+pub returns-then-text-gt65535 : goal.returns-then-text-gt65535
+unfolding load_of verdict_of
+returns-then-text-gt65535 c = c.loaded_with.ensures ∙ rw (lt-ltb _ _ c.if-text-gt65535.true)
 
-refused : (v : Verdict) (t : Table) (f : Fault) → result_and v (Ok t) ≡ Err f → v ≡ Err f
-refused (Ok tt) t f e = absurd cc
-refused (Err g) t f e = cc
-
-pub returns-in-Ok : goal.returns-in-Ok
-unfolding load_of
-returns-in-Ok c =
-    let a = accepted (verdict_of c.args.text.now) (table_in c.args.text.now) c.in-Ok.table (sym c.table_in.ensures ∙ c.in-Ok.is) in
-    rw (a.0, a.1)
-
-pub returns-in-Err : goal.returns-in-Err
-unfolding load_of
-returns-in-Err c = rw (refused (verdict_of c.args.text.now) (table_in c.args.text.now) c.in-Err.fault (sym c.table_in.ensures ∙ c.in-Err.is), c.empty.ensures)
+pub returns : goal.returns
+unfolding load_of verdict_of table_in
+returns c =
+    let e = c.entities_in-entities.ensures in
+    let v = c.verdict-verdict.ensures ∙ ap (λ (s : Stored). refuse_at BadLine (bad_line c.args.text.now) (refuse_at SlotTwice s.twice (refuse_at EntityBreaksGroup s.breaks (Ok tt)))) e in
+    c.loaded_with-2.ensures ∙ ap₂ loaded_with v (ap (λ (s : Stored). s.table) e) ∙ rw (le-ltb _ _ c.if-text-gt65535.false)
