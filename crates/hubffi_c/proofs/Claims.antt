@@ -4,8 +4,9 @@ use Prim.Native.Nat.{ℕ}
 use mathlib.Core.Path.{◌≡◌, refl, sym, ap, ◌∙◌}
 use mathlib.Core.Bool.{true, false}
 use mathlib.Core.List.{List, [], ◌∷◌}
-use Rattle.rules.specs.declared.Outcome.{Outcome}
-use Rattle.rules.specs.declared.Outcome.TheVariants.{Allowed, Refused}
+use Rattle.rules.specs.Numbers.{Outcome}
+use Rattle.std.specs.Prelude.{Ok, Err}
+use Rattle.rules.specs.declared.Refusal.{Refusal}
 use Rattle.rules.specs.Table.{accepted}
 use Rattle.rules.specs.Calls.{Call}
 use Rattle.rules.specs.Refusals.{number_of, on_allowed, verdict, step}
@@ -22,17 +23,18 @@ use Rattle.load.specs.Load.{load_of}
 use Rattle.load.proofs.Accepted.{loads_accepted}
 use Rattle.hubffi_c.specs.Answers.{answered, reply_to, audit_answer, loaded_as}
 use Rattle.hubffi_c.specs.Claims.{CallsAsRules}
+use Rattle.rules.specs.declared.Refusal.TheVariants.{Formless}
 
 next : (s : HubTable) (c : Call words) (v : Outcome) → verdict hub (table_of s) c ≡ v
     → table_of (on_allowed v (struct_of (step hub (table_of s) c)) s) ≡ step hub (table_of s) c
-next s c Allowed e = struct_stands.table_back (step hub (table_of s) c)
-next s c (Refused n) e = sym (refusals_move_nothing hub (table_of s) c n e).table
+next s c (Ok _) e = struct_stands.table_back (step hub (table_of s) c)
+next s c (Err n) e = sym (refusals_move_nothing hub (table_of s) c n e).table
 
 call-table : (s : HubTable) (c : Call words) → table_of (reply_to s c).table ≡ step hub (table_of s) c
 unfolding answered reply
 call-table s c = next s c (verdict hub (table_of s) c) refl
 
-refused : (s : HubTable) (c : Call words) (n : ℕ) → verdict hub (table_of s) c ≡ Refused n → (reply_to s c).table ≡ s
+refused : (s : HubTable) (c : Call words) (n : Refusal) → verdict hub (table_of s) c ≡ Err n → (reply_to s c).table ≡ s
 unfolding answered reply
 refused s c n e = ap (λ (v : Outcome). on_allowed v (struct_of (step hub (table_of s) c)) s) e
 
@@ -40,12 +42,12 @@ call-runs : (s : HubTable) (cs : List (Call words)) → table_of (final (λ u c.
 call-runs s [] = refl
 call-runs s (c ∷ cs) = call-runs (reply_to s c).table cs ∙ ap (λ (t : Table). final (step hub) t cs) (call-table s c)
 
-by_99 : (s : HubTable) (c : Call words) → kinds_known s.slots ≡ false → verdict hub (table_of s) c ≡ Refused 99
+by_99 : (s : HubTable) (c : Call words) → kinds_known s.slots ≡ false → verdict hub (table_of s) c ≡ Err Formless
 by_99 s c h = rw (struct_stands.unknown s h)
 
 unknown-call : (s : HubTable) (c : Call words) → kinds_known s.slots ≡ false → ((reply_to s c).table ≡ s) × ((reply_to s c).number ≡ 99)
 unfolding answered reply
-unknown-call s c h = (refused s c 99 (by_99 s c h), ap number_of (by_99 s c h))
+unknown-call s c h = (refused s c Formless (by_99 s c h), ap number_of (by_99 s c h))
 
 unknown_audit : (s : HubTable) (i : ℕ) (list buf : List ℕ) → kinds_known s.slots ≡ false → (audit_answer s i list buf).number ≡ 99
 unfolding audit_answer audited

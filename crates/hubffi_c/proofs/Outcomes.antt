@@ -1,7 +1,7 @@
 -- What an answer is, by a call's outcome.
 -- Assumes nothing.
 use mathlib.Core.Path.{◌≡◌, sym, ap, ◌∙◌}
-use Rattle.rules.specs.declared.Outcome.{Outcome}
+use Rattle.rules.specs.Numbers.{Outcome}
 use Rattle.rules.specs.Refusals.{number_of, on_allowed}
 use Rattle.monitor.specs.declared.Reply.{Reply}
 use Rattle.layout.specs.declared.HubTable.{HubTable}

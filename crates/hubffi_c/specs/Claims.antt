@@ -1,7 +1,8 @@
 -- Calls on structs are the rules' own on the tables that they stand for.
 -- Assumes nothing.
 use Rattle.std.specs.Prelude.{ℕ, ◌≡◌, true, false, List, length}
-use Rattle.rules.specs.declared.Outcome.TheVariants.{Refused}
+use Rattle.rules.specs.declared.Refusal.{Refusal}
+use Rattle.std.specs.Prelude.{Err}
 use Rattle.rules.specs.Table.{accepted}
 use Rattle.rules.specs.Calls.{Call}
 use Rattle.rules.specs.Refusals.{number_of, verdict, step}
@@ -21,7 +22,7 @@ pub record CallsAsRules : Type 0 where
   pub table : (s : HubTable) (c : Call words) → table_of (reply_to s c).table ≡ step hub (table_of s) c
   pub number : (s : HubTable) (c : Call words) → (reply_to s c).number ≡ number_of (answer hub (table_of s) c).outcome
   pub entry : (s : HubTable) (c : Call words) → (reply_to s c).entry ≡ (answer hub (table_of s) c).entry
-  pub refused : (s : HubTable) (c : Call words) (n : ℕ) → verdict hub (table_of s) c ≡ Refused n → (reply_to s c).table ≡ s
+  pub refused : (s : HubTable) (c : Call words) (r : Refusal) → verdict hub (table_of s) c ≡ Err r → (reply_to s c).table ≡ s
   pub runs : (s : HubTable) (cs : List (Call words)) → table_of (final (λ u c. (reply_to u c).table) s cs) ≡ final (step hub) (table_of s) cs
   pub unknown : (s : HubTable) (c : Call words) → kinds_known s.slots ≡ false → ((reply_to s c).table ≡ s) × ((reply_to s c).number ≡ 99)
   pub unknown_audit : (s : HubTable) (i : ℕ) (list buf : List ℕ) → kinds_known s.slots ≡ false → (audit_answer s i list buf).number ≡ 99

@@ -12,7 +12,6 @@ ghost use Rattle.hubffi_c.specs.Answers.{answered, reply_to, audit_answer, loade
 
 use layout::HubTable;
 use monitor::{Reply, Table};
-use rules::Outcome;
 
 // What a call hands back: the next table, the number returned, and the record.
 #[repr(C)]
@@ -49,14 +48,14 @@ fn answered(t: HubTable, r: Reply) -> HubReply
     let entry = answer.entry;
     let outcome = answer.outcome;
     match outcome {
-        Outcome::Allowed => HubReply {
+        Ok(()) => HubReply {
             table: layout::struct_of(table),
             number: 0,
             entry,
         },
-        Outcome::Refused(n) => HubReply {
+        Err(refusal) => HubReply {
             table: t,
-            number: n,
+            number: refusal.number(),
             entry,
         },
     }
@@ -72,14 +71,14 @@ fn answered_here(t: HubTable, r: Reply) -> HubReply
     let entry = answer.entry;
     let outcome = answer.outcome;
     match outcome {
-        Outcome::Allowed => HubReply {
+        Ok(()) => HubReply {
             table: layout::struct_here(table),
             number: 0,
             entry,
         },
-        Outcome::Refused(n) => HubReply {
+        Err(refusal) => HubReply {
             table: t,
-            number: n,
+            number: refusal.number(),
             entry,
         },
     }
