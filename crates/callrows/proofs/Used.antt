@@ -1,12 +1,10 @@
 -- The fields that a line of calls must give are those that the record repeats.
 -- Assumes nothing.
-use mathlib.Core.Path.{refl}
-use mathlib.Core.Bool.{Bool, true, false, cond}
+use Rattle.std.proofs.Common.{refl, Bool, true, false, cond, None, Some}
 use Rattle.rules.specs.declared.Call.TheVariants.{Put, Show, Send, Fetch, Add, Drop, Create, Release, Hand}
 use Rattle.text.specs.Ascii.{ascii}
 use Rattle.text.specs.Bytes.{eq_bytes}
 use Rattle.text.specs.Lines.{fields_in, ahead}
-use Rattle.callrows.specs.declared.CallRead.TheVariants as CallRead
 use Rattle.callrows.specs.Calls.{call_named, UsesFields, UsedFields, NamedKinds}
 
 pub used_fields : UsedFields
@@ -16,7 +14,7 @@ used_fields f i j n p bs =
   where
     go : (t1 t2 t3 t4 t5 t6 t7 t8 t9 : Bool)
         → UsesFields i j n p bs
-        (cond t1 (CallRead.Call (Put i)) (cond t2 (CallRead.Call (Show i)) (cond t3 (CallRead.Call (Send i j)) (cond t4 (CallRead.Call (Fetch i j)) (cond t5 (CallRead.Call (Add i n p)) (cond t6 (CallRead.Call (Drop i n p)) (cond t7 (CallRead.Call (Create i j n)) (cond t8 (CallRead.Call (Release i j)) (cond t9 (CallRead.Call (Hand i j n p)) CallRead.Bad)))))))))
+        (cond t1 (Some (Put i)) (cond t2 (Some (Show i)) (cond t3 (Some (Send i j)) (cond t4 (Some (Fetch i j)) (cond t5 (Some (Add i n p)) (cond t6 (Some (Drop i n p)) (cond t7 (Some (Create i j n)) (cond t8 (Some (Release i j)) (cond t9 (Some (Hand i j n p)) None)))))))))
     go true t2 t3 t4 t5 t6 t7 t8 t9 = (refl, refl, refl, refl, refl)
     go false true t3 t4 t5 t6 t7 t8 t9 = (refl, refl, refl, refl, refl)
     go false false true t4 t5 t6 t7 t8 t9 = (refl, refl, refl, refl, refl)

@@ -1,24 +1,20 @@
 -- Document 01, 'The text': one line of values of the calls.
 -- Assumes nothing.
-use Rattle.std.specs.Prelude.{ℕ, ◌≡◌, Bool, true, false, cond, ◌&&◌, List, [], ◌∷◌, map, length, replicate, eqb}
-use Rattle.std.proofs.Math.Option.{Option, none, some}
+use Rattle.std.specs.Prelude.{ℕ, ◌≡◌, Bool, true, false, cond, ◌&&◌, Option, None, Some, is_some, unwrap_or, List, [], ◌∷◌, map, length, replicate, eqb}
+use Rattle.std.proofs.Math.Option.{none, some}
 use Rattle.rules.specs.declared.Call.{Call as Named}
 use Rattle.rules.specs.declared.Call.TheVariants.{Put, Show, Send, Fetch, Add, Drop, Create, Release, Hand}
 use Rattle.rules.specs.Table.{free}
 use Rattle.rules.specs.Calls.{Call, fields_of, kind_of, moved}
 use Rattle.label.specs.Calls.{call_with}
 use Rattle.label.specs.Words.{words}
-use Rattle.values.specs.declared.Number.{Number}
-use Rattle.values.specs.declared.Size.{Size}
-use Rattle.values.specs.declared.Data.{Data}
 use Rattle.text.specs.Ascii.{ascii}
 use Rattle.text.specs.Bytes.{eq_bytes}
 use Rattle.values.specs.Values.{decimal_of, data_of, dash}
 use Rattle.text.specs.Lines.{fields_in, field_at, column_of}
-use Rattle.values.specs.Answers.{as_number, data_bytes, no_bytes}
-use Rattle.text.specs.Options.{◌>>=◌}
+use Rattle.values.specs.Answers.{as_data}
+use Rattle.values.specs.Options.{◌>>=◌}
 use Rattle.callrows.specs.declared.CallColumns.{CallColumns}
-use Rattle.callrows.specs.declared.CallRead.{CallRead}
 use Rattle.callrows.specs.declared.Uses.{Uses}
 use Rattle.callrows.specs.declared.CallRow.{CallRow}
 
@@ -37,17 +33,17 @@ call_columns hs = record {
 }
 
 -- the call of a name, by a caller, with the other's slot, the set field and the tag as far as it uses them
-unfoldable pub call_named : List ℕ → ℕ → ℕ → ℕ → ℕ → CallRead
+unfoldable pub call_named : List ℕ → ℕ → ℕ → ℕ → ℕ → Option Named
 call_named f i j n p =
-    cond (eq_bytes f (ascii "put")) (CallRead.Call (Put i))
-    (cond (eq_bytes f (ascii "show")) (CallRead.Call (Show i))
-    (cond (eq_bytes f (ascii "send")) (CallRead.Call (Send i j))
-    (cond (eq_bytes f (ascii "fetch")) (CallRead.Call (Fetch i j))
-    (cond (eq_bytes f (ascii "add")) (CallRead.Call (Add i n p))
-    (cond (eq_bytes f (ascii "drop")) (CallRead.Call (Drop i n p))
-    (cond (eq_bytes f (ascii "create")) (CallRead.Call (Create i j n))
-    (cond (eq_bytes f (ascii "release")) (CallRead.Call (Release i j))
-    (cond (eq_bytes f (ascii "hand")) (CallRead.Call (Hand i j n p)) CallRead.Bad))))))))
+    cond (eq_bytes f (ascii "put")) (Some (Put i))
+    (cond (eq_bytes f (ascii "show")) (Some (Show i))
+    (cond (eq_bytes f (ascii "send")) (Some (Send i j))
+    (cond (eq_bytes f (ascii "fetch")) (Some (Fetch i j))
+    (cond (eq_bytes f (ascii "add")) (Some (Add i n p))
+    (cond (eq_bytes f (ascii "drop")) (Some (Drop i n p))
+    (cond (eq_bytes f (ascii "create")) (Some (Create i j n))
+    (cond (eq_bytes f (ascii "release")) (Some (Release i j))
+    (cond (eq_bytes f (ascii "hand")) (Some (Hand i j n p)) None))))))))
 
 -- which fields a call uses, beside the caller: the other's slot, the set field, the tag, the data
 abbrev pub with_uses : Bool → Bool → Bool → Bool → Uses
@@ -65,24 +61,16 @@ uses_of (Release i j) = with_uses true false false false
 uses_of (Hand i j n p) = with_uses true true true false
 
 -- what a field says as a number; 255 where it says none, as `-` does
-abbrev pub number_read : List ℕ → Number
-number_read f = as_number (decimal_of 255 f)
-
-abbrev pub value_in : Number → ℕ
-value_in (Number.Value n) = n
-value_in Number.Bad = 255
-
-abbrev pub is_value : Number → Bool
-is_value (Number.Value n) = true
-is_value Number.Bad = false
+abbrev pub number_in : List ℕ → ℕ
+number_in f = unwrap_or (decimal_of 255 f) 255
 
 -- a used field is a number; an unused one is `-`
-abbrev pub fits : Bool → Number → List ℕ → Bool
-fits used n f = cond used (is_value n) (eq_bytes f dash)
+abbrev pub fits : Bool → List ℕ → Bool
+fits used f = cond used (is_some (decimal_of 255 f)) (eq_bytes f dash)
 
 -- put's data; in any other call `-`
 unfoldable pub data_if : Bool → List ℕ → Option (List ℕ)
-data_if used f = cond used (data_of 255 f) (cond (eq_bytes f dash) (some []) none)
+data_if used f = cond used (data_of 255 f) (cond (eq_bytes f dash) (Some []) None)
 
 -- what a line says: a call, and the bytes put; and the call as the rules have it, where show's buffer has 64 bytes
 pub record CallSaid : Type 0 where
@@ -95,50 +83,29 @@ show_buffer = replicate 64 0
 abbrev pub call_in : CallSaid → Call words
 call_in q = call_with q.call q.bytes show_buffer
 
--- the line of these fields, of which there are six or not
-module _ (six : Bool) (name caller other set tag bytes : List ℕ) where
-  abbrev pub fields_fit : Uses → Bool
-  fields_fit u =
-      (((six && fits true (number_read caller) caller) && fits u.other (number_read other) other)
-      && fits u.set (number_read set) set) && fits u.tag (number_read tag) tag
-
-  abbrev pub call_from : CallRead → Option CallSaid
-  call_from CallRead.Bad = none
-  call_from (CallRead.Call c) =
-      cond (fields_fit (uses_of c)) (data_if (uses_of c).bytes bytes >>= λ bs. some (record { call = c; bytes = bs })) none
-
-  unfoldable pub call_by : Option CallSaid
-  call_by =
-      call_from
-      (call_named name (value_in (number_read caller)) (value_in (number_read other)) (value_in (number_read set)) (value_in (number_read tag)))
-
 -- the line whose fields are fs, in the columns cs
 unfoldable pub call_of : CallColumns → List (List ℕ) → Option CallSaid
 call_of cs fs =
-    call_by (eqb (length fs) 6) (field_at fs cs.call) (field_at fs cs.caller) (field_at fs cs.other) (field_at fs cs.set)
-    (field_at fs cs.tag) (field_at fs cs.bytes)
+    cond (eqb (length fs) 6)
+    (do
+      i ← decimal_of 255 (field_at fs cs.caller)
+      c ← call_named (field_at fs cs.call) i (number_in (field_at fs cs.other)) (number_in (field_at fs cs.set)) (number_in (field_at fs cs.tag))
+      bs ← cond ((fits (uses_of c).other (field_at fs cs.other) && fits (uses_of c).set (field_at fs cs.set)) && fits (uses_of c).tag (field_at fs cs.tag)) (data_if (uses_of c).bytes (field_at fs cs.bytes)) None
+      Some (record { call = c; bytes = bs }))
+    None
 
 -- what the code answers
-abbrev pub as_call_row : Option CallSaid → CallRow
-as_call_row none = record { read = CallRead.Bad; len = 0; bytes = no_bytes }
-as_call_row (some q) = record { read = CallRead.Call q.call; len = length q.bytes; bytes = data_bytes q.bytes }
-
--- a call with its data, in a line whose fields fit
-abbrev sized : Named → List ℕ → Size → CallRow
-sized c bytes (Size.Bytes n) = record { read = CallRead.Call c; len = n; bytes = bytes }
-sized c bytes Size.Bad = as_call_row none
-
-abbrev pub call_row_with : Bool → Named → Data → CallRow
-call_row_with good c d = cond good (sized c d.bytes d.size) (as_call_row none)
+abbrev pub as_call_row : CallSaid → CallRow
+as_call_row q = record { call = q.call; put = as_data q.bytes }
 
 -- ---- claims
 
 -- The fields that a line must give are those that the call's record repeats, each from its own column, and the bytes put.
 -- (Between free slots only bytes put move.)
 module _ (i j n p : ℕ) (bs : List ℕ) where
-  abbrev pub UsesFields : CallRead → Type 0
-  UsesFields CallRead.Bad = Unit {0}
-  UsesFields (CallRead.Call c) =
+  abbrev pub UsesFields : Option Named → Type 0
+  UsesFields None = Unit {0}
+  UsesFields (Some c) =
       ((fields_of (call_in (record { call = c; bytes = bs }))).caller ≡ i)
       × ((fields_of (call_in (record { call = c; bytes = bs }))).other ≡ cond (uses_of c).other j 255)
       × ((fields_of (call_in (record { call = c; bytes = bs }))).set ≡ cond (uses_of c).set n 255)
@@ -149,9 +116,9 @@ abbrev pub UsedFields : Type 0
 UsedFields = (f : List ℕ) (i j n p : ℕ) (bs : List ℕ) → UsesFields i j n p bs (call_named f i j n p)
 
 -- The names are those of document 01's calls, 1 to 9
-abbrev pub kind_read : CallRead → ℕ
-kind_read CallRead.Bad = 0
-kind_read (CallRead.Call c) = kind_of (call_with c [] [])
+abbrev pub kind_read : Option Named → ℕ
+kind_read None = 0
+kind_read (Some c) = kind_of (call_with c [] [])
 
 abbrev pub NamedKinds : Type 0
 NamedKinds = (i j n p : ℕ)

@@ -1,21 +1,35 @@
 -- The fields of a line one after the other, the column of a name, and the field in a column.
 -- Assumes nothing.
 use mathlib.Core.Path.{◌≡◌, refl, sym, ap, ◌∙◌}
-use mathlib.Core.Bool.{Bool, true, false, cond}
+use mathlib.Core.Bool.{Bool, true, false, cond, not}
 use mathlib.Core.Logic.{◌⊎◌, inl, inr}
 use mathlib.Core.List.{List, [], ◌∷◌}
 use Prim.Native.Nat.{ℕ, zero, suc, ◌+◌, ◌-◌, ◌≤◌, ◌<◌}
-use native.Mathlib.Numerals.{add-one}
+use native.Mathlib.Numerals.{add-one, one-add}
 use native.Mathlib.Decide.{dec_le}
+use native.Mathlib.Nat.{add_assoc}
 use native.Mathlib.Omega.{arith}
 use lib.Dec.{eqb, ltb, leb}
 use lib.ListN.{length, get_or, take, drop, set, replicate, length-set, length-drop, drop_of_length-le}
-use lib.Seq.{take_all, take-nil, length-take-le, drop-drop, get_or-set_same, get_or-set_other}
+use lib.Seq.{take_all, drop-cons, take-nil, length-take-le, drop-drop, get_or-set_same, get_or-set_other}
 use borrow.Author.Tests.{lt-ltb, le-ltb, le-leb, lt-leb}
-use Rattle.text.specs.Bytes.{eq_bytes, index_of}
+use Rattle.std.specs.List.{prefix_len, list_all, slice_split, onto_first}
+use Rattle.std.specs.Str.{bytes_eq}
+use Rattle.std.proofs.lemmas.List.Recursion.{is_position_or_len}
+use Rattle.std.specs.Fn.{CalledAt}
+use Rattle.std.specs.Slice.Iter.{split_rest, split_done, split_callee, split_steps}
+use Rattle.std.specs.declared.slice.Split.{Split}
+use Rattle.std.proofs.lemmas.Iterator.{YieldsList}
+use Rattle.std.proofs.lemmas.Iterator.Splits.{YieldsList-from_slice_split}
+use denote.Param.Members.{Mut}
+use denote.Ref.{Bor}
+use Rattle.text.specs.Bytes.{index_of}
 use Rattle.text.specs.Lines.{ahead, fields_in, field_at, column_of, has_names}
 use Rattle.text.specs.Split.{no_starts, starts_from, split_of, field_by}
-use Rattle.text.proofs.Laws.{index_le, less_suc}
+use Rattle.text.proofs.Laws.{eq_is, index_le, less_suc}
+
+nothing : {f : List ℕ} {fs : List (List ℕ)} → [] ≡ f ∷ fs → ⊥
+nothing e = let z : ◌≡◌ {A = ℕ} 0 1 = cc in omega arith
 
 -- the fields after a line's first
 rest_of : List ℕ → List (List ℕ)
@@ -39,36 +53,49 @@ fields-first (b ∷ bs) = go (eqb b 32) refl (fields-first bs)
     go true e r = rw (e, lt-ltb 0 (length (b ∷ bs)) (omega arith))
     go false e r = rw (e, less_suc (index_of 32 bs) (length bs), r)
 
--- ---- the column of a name
+-- the same in the words of the library: the parts that spaces cut, and what is asked of each
+abbrev pub is_space : ℕ → Bool
+is_space b = eqb b 32
 
-module _ (name h : List ℕ) (i : ℕ) (ei : i ≡ index_of 32 h) where
-  pub column_here : eq_bytes (take i h) name ≡ true → column_of name (fields_in h) ≡ 0
-  unfolding column_of
-  column_here e = rw (fields-first h, ← ei, e)
+pub fields_are : (s : List ℕ) → fields_in s ≡ slice_split is_space s
+unfolding fields_in ahead
+fields_are [] = refl
+fields_are (b ∷ bs) = ap (λ (fs : List (List ℕ)). cond (eqb b 32) ([] ∷ fs) (ahead b fs)) (fields_are bs) ∙ ap (λ (fs : List (List ℕ)). cond (eqb b 32) ([] ∷ slice_split is_space bs) fs) (onto (slice_split is_space bs) (sym (fields_are bs) ∙ fields-first bs))
+  where
+    onto : {f : List ℕ} {fs : List (List ℕ)} (gs : List (List ℕ)) → gs ≡ f ∷ fs → ahead b gs ≡ onto_first b gs
+    onto [] e = absurd (nothing e)
+    onto (g ∷ gs) e = refl
 
-  module _ (e : eq_bytes (take i h) name ≡ false) where
-    pub column_none : length h ≤ i → column_of name (fields_in h) ≡ 1
-    unfolding column_of
-    column_none l = rw (fields-first h, ← ei, e, rest-none h (omega arith))
+-- what the fields take of a row, each with its space, and the end counted as one
+abbrev pub room : List (List ℕ) → ℕ
+room [] = 0
+room (f ∷ fs) = length f + 1 + room fs
 
-    pub column_next : i < length h → column_of name (fields_in h) ≡ suc (column_of name (fields_in (drop (i + 1) h)))
-    unfolding column_of
-    column_next l = rw (fields-first h, add-one i, rest_more h (omega arith), ← ei, e)
+room_is : (s : List ℕ) → room (slice_split is_space s) ≡ length s + 1
+room_is [] = refl
+room_is (b ∷ bs) = go (eqb b 32) (slice_split is_space bs) (room_is bs)
+  where
+    go : (t : Bool) (fs : List (List ℕ)) → room fs ≡ length bs + 1 → room (cond t ([] ∷ fs) (onto_first b fs)) ≡ length (b ∷ bs) + 1
+    go true fs r = omega arith
+    go false [] r = absurd (omega arith)
+    go false (f ∷ fs) r = omega arith
 
--- whether each of the names has a column
-module _ (hs : List (List ℕ)) (n : List ℕ) (i : ℕ) (ei : i ≡ index_of 32 n) where
-  pub all_miss : length hs ≤ column_of (take i n) hs → has_names (fields_in n) hs ≡ false
-  unfolding has_names
-  all_miss e = rw (fields-first n, has_names, ← ei, le-ltb _ _ e)
+pub room_of : (s : List ℕ) → room (fields_in s) ≡ length s + 1
+room_of s = rw (fields_are s) (room_is s)
 
-  module _ (e : column_of (take i n) hs < length hs) where
-    pub all_last : length n ≤ i → has_names (fields_in n) hs ≡ true
-    unfolding has_names
-    all_last l = rw (fields-first n, has_names, ← ei, lt-ltb _ _ e, rest-none n (omega arith), has_names)
+-- what an iterator over them gives
+pub gives_fields : {F : Type 0} {s : Split ℕ F} (g : Mut F (Bor ℕ × Unit {0}) Bool) {f : F} (xs : List ℕ) → split_rest s ≡ xs → split_done s ≡ false → split_callee s ≡ f
+    → ((x : ℕ) (b : Bool) (q : F) → CalledAt g f x b q → (q ≡ f) × (b ≡ is_space x)) → YieldsList (split_steps g) (λ x. x.now) s (fields_in xs)
+gives_fields g xs r d e h = rw (fields_are xs) (YieldsList-from_slice_split g is_space xs r d e h)
 
-    pub all_next : i < length n → has_names (fields_in n) hs ≡ has_names (fields_in (drop (i + 1) n)) hs
-    unfolding has_names
-    all_next l = rw (fields-first n, has_names, add-one i, rest_more n (omega arith), ← ei, lt-ltb _ _ e)
+pub column_is : (name : List ℕ) (hs : List (List ℕ)) → column_of name hs ≡ prefix_len (λ h. not (bytes_eq h name)) hs
+unfolding column_of
+column_is name hs = is_position_or_len (column_of name) (λ h. bytes_eq h name) refl (λ h hs. rw (eq_is h name, one-add)) hs
+
+pub all_named : (ns hs : List (List ℕ)) → has_names ns hs ≡ list_all (λ n. ltb (column_of n hs) (length hs)) ns
+unfolding has_names
+all_named [] hs = refl
+all_named (n ∷ ns) hs = rw (all_named ns hs)
 
 -- ---- where the fields of a row start
 
@@ -108,17 +135,23 @@ module _ (s : List ℕ) (n at : ℕ) (f : List ℕ) (fs : List (List ℕ)) where
   unfolding starts_from
   starts_full h = rw (starts_from, le-ltb (n + 1) 16 h)
 
--- and with those of the fields from a place on
-module _ (row s : List ℕ) (n at i : ℕ) (h : at ≤ length row) (e : i ≡ index_of 32 (drop at row)) where
-  pub split_more : n + 1 < 16 → starts_from s n at (fields_from row at) ≡ starts_from (set s (n + 1) (at + i + 1)) (n + 1) (at + i + 1) (fields_from row (at + i + 1))
-  split_more k = rw (from_more row at i h e, starts_more s n at (take i (drop at row)) (fields_from row (at + i + 1)) k, from_length row at i h e)
+-- and where it is the next of a row's, after n
+module _ (s : List ℕ) (n at : ℕ) (f : List ℕ) (fs : List (List ℕ)) (h : n < length fs) (e : f ≡ get_or fs n f) where
+  turn : drop n fs ≡ f ∷ drop (n + 1) fs
+  turn = drop-cons fs n f h ∙ rw (← e, add-one n)
 
-  pub split_full : 16 ≤ n + 1 → starts_from s n at (fields_from row at) ≡ starts_from s (n + 1) (at + i + 1) (fields_from row (at + i + 1))
-  split_full k = rw (from_more row at i h e, starts_full s n at (take i (drop at row)) (fields_from row (at + i + 1)) k, from_length row at i h e)
+  pub turn_room : room (drop n fs) ≡ length f + 1 + room (drop (n + 1) fs)
+  turn_room = ap room turn
 
-pub split_end : (row s : List ℕ) (n at : ℕ) → length row < at → starts_from s n at (fields_from row at) ≡ record { at = s; count = n }
+  pub turn_more : n + 1 < 16 → starts_from s n at (drop n fs) ≡ starts_from (set s (n + 1) (at + (length f + 1))) (n + 1) (at + (length f + 1)) (drop (n + 1) fs)
+  turn_more k = rw (turn, ← add_assoc at (length f) 1) (starts_more s n at f (drop (n + 1) fs) k)
+
+  pub turn_full : 16 ≤ n + 1 → starts_from s n at (drop n fs) ≡ starts_from s (n + 1) (at + (length f + 1)) (drop (n + 1) fs)
+  turn_full k = rw (turn, ← add_assoc at (length f) 1) (starts_full s n at f (drop (n + 1) fs) k)
+
+pub turn_end : (s : List ℕ) (n at : ℕ) (fs : List (List ℕ)) → length fs ≤ n → starts_from s n at (drop n fs) ≡ record { at = s; count = n }
 unfolding starts_from
-split_end row s n at h = rw (from_none row at h)
+turn_end s n at fs h = rw (drop_of_length-le fs h)
 
 starts_count : (fs : List (List ℕ)) (s : List ℕ) (n at : ℕ) → (starts_from s n at fs).count ≡ n + length fs
 unfolding starts_from

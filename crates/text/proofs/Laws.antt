@@ -1,16 +1,19 @@
 -- One step and the end of each definition over what is left of a list.
 -- Assumes nothing.
 use mathlib.Core.Path.{◌≡◌, refl, sym, ap, ◌∙◌}
-use mathlib.Core.Bool.{Bool, true, false, cond, ◌&&◌}
+use mathlib.Core.Bool.{Bool, true, false, cond}
 use mathlib.Core.List.{List, [], ◌∷◌}
 use Prim.Native.Nat.{ℕ, suc, ◌+◌, ◌-◌, ◌≤◌, ◌<◌}
-use native.Mathlib.Numerals.{add-one}
+use native.Mathlib.Numerals.{add-one, one-add}
 use native.Mathlib.Decide.{dec_le}
 use native.Mathlib.Omega.{arith}
 use lib.Dec.{eqb, ltb}
 use lib.ListN.{length, get_or, take, drop, drop_of_length-le, length-drop}
 use lib.Seq.{drop-cons, take_all, take-nil, drop-drop}
-use borrow.Author.Tests.{eq-eqb, ne_eqb, lt-ltb, le-ltb, ltb-true, ltb-false}
+use borrow.Author.Tests.{ne_eqb, lt-ltb, le-ltb, ltb-true, ltb-false}
+use Rattle.std.specs.List.{position_or_len}
+use Rattle.std.specs.Str.{bytes_eq}
+use Rattle.std.proofs.lemmas.List.Recursion.{is_position_or_len}
 use Rattle.text.specs.Bytes.{eq_bytes, index_of}
 use Rattle.text.specs.Lines.{Lines, done, cut, line, before, lines_of, line_end, line_at, next_line}
 
@@ -22,42 +25,17 @@ step s i h = rw (add-one, drop-cons s i 0)
 pub at_end : (s : List ℕ) (i : ℕ) → length s ≤ i → drop i s ≡ []
 at_end s i h = drop_of_length-le s h
 
--- index_of
-pub index_hit : (s : List ℕ) (b i : ℕ) → i < length s → get_or s i 0 ≡ b → i + index_of b (drop i s) ≡ i
+-- the words of the library for the same
+pub eq_is : (a b : List ℕ) → eq_bytes a b ≡ bytes_eq a b
+unfolding eq_bytes
+eq_is [] [] = refl
+eq_is [] (y ∷ ys) = refl
+eq_is (x ∷ xs) [] = refl
+eq_is (x ∷ xs) (y ∷ ys) = rw (eq_is xs ys)
+
+pub index_is : (b : ℕ) (s : List ℕ) → index_of b s ≡ position_or_len (λ x. eqb x b) s
 unfolding index_of
-index_hit s b i h e = rw (step s i h, index_of, eq-eqb (get_or s i 0) b e) (omega arith)
-
-pub index_miss : (s : List ℕ) (b i : ℕ) → i < length s → (get_or s i 0 ≡ b → ⊥) → i + index_of b (drop i s) ≡ i + 1 + index_of b (drop (i + 1) s)
-unfolding index_of
-index_miss s b i h e = rw (step s i h, index_of, ne_eqb (get_or s i 0) b e) (omega arith)
-
-pub index_end : (s : List ℕ) (b i : ℕ) → length s ≤ i → i + index_of b (drop i s) ≡ i
-unfolding index_of
-index_end s b i h = rw (at_end s i h, index_of) (omega arith)
-
--- eq_bytes
-pub eq_hit : (a b : List ℕ) (i : ℕ) → i < length a → i < length b → get_or a i 0 ≡ get_or b i 0 → eq_bytes (drop i a) (drop i b) ≡ eq_bytes (drop (i + 1) a) (drop (i + 1) b)
-unfolding eq_bytes
-eq_hit a b i h k e = rw (step a i h, step b i k, eq_bytes, eq-eqb (get_or a i 0) (get_or b i 0) e)
-
-pub eq_miss : (a b : List ℕ) (i : ℕ) → i < length a → i < length b → (get_or a i 0 ≡ get_or b i 0 → ⊥) → eq_bytes (drop i a) (drop i b) ≡ false
-unfolding eq_bytes
-eq_miss a b i h k e = rw (step a i h, step b i k, eq_bytes, ne_eqb (get_or a i 0) (get_or b i 0) e)
-
-pub eq_end : (a b : List ℕ) (i : ℕ) → length a ≤ i → length b ≤ i → eq_bytes (drop i a) (drop i b) ≡ true
-unfolding eq_bytes
-eq_end a b i h k = rw (at_end a i h, at_end b i k, eq_bytes)
-
-and-false : (t : Bool) → t && false ≡ false
-and-false true = refl
-and-false false = refl
-
-pub eq_lengths : (a b : List ℕ) → (length a ≡ length b → ⊥) → eq_bytes a b ≡ false
-unfolding eq_bytes
-eq_lengths [] [] e = absurd (e refl)
-eq_lengths [] (y ∷ ys) e = refl
-eq_lengths (x ∷ xs) [] e = refl
-eq_lengths (x ∷ xs) (y ∷ ys) e = rw (eq_lengths xs ys (λ p. e (ap suc p))) (and-false (eqb x y))
+index_is b s = is_position_or_len (index_of b) (λ x. eqb x b) refl (λ x xs. rw one-add) s
 
 -- what a part to the end holds
 pub rest : (s : List ℕ) (a : ℕ) → take (length s - a) (drop a s) ≡ drop a s

@@ -10,50 +10,21 @@ ghost use Rattle.text.specs.Split.{no_starts, split_of, field_by};
 pub fn same(a: &[u8], b: &[u8]) -> bool
     ensures { result ≡ eq_bytes a.now b.now }
 {
-    if a.len() != b.len() {
-        return false;
-    }
-    let mut i = 0;
-    while i < a.len() {
-        if a[i] != b[i] {
-            return false;
-        }
-        i += 1;
-    }
-    true
+    a == b
 }
 
 // The index of the first b, or the length where there is none.
 pub fn index_of(s: &[u8], b: u8) -> usize
     ensures { result ≡ index_of b s.now }
 {
-    let mut i = 0;
-    while i < s.len() {
-        if s[i] == b {
-            return i;
-        }
-        i += 1;
-    }
-    i
+    s.iter().position(|x| *x == b).unwrap_or(s.len())
 }
 
 // The column of a name in a line of names; how many there are, where it is not among them.
 pub fn column(line: &[u8], name: &[u8]) -> usize
     ensures { result ≡ column_of name.now (fields_in line.now) }
 {
-    let mut k: usize = 0;
-    let mut h = line;
-    loop {
-        let i = index_of(h, 32);
-        if same(&h[..i], name) {
-            return k;
-        }
-        k += 1;
-        if h.len() <= i {
-            return k;
-        }
-        h = &h[i + 1..];
-    }
+    line.split(|b| *b == 32).take_while(|h| *h != name).count()
 }
 
 // Where the fields of a row start, the first 15, and where one more would; and how many there are.
@@ -63,30 +34,21 @@ pub struct Starts {
     pub count: usize,
 }
 
-fn no_starts() -> [usize; 16]
-    ensures { result ≡ no_starts }
-{
-    [0usize; 16]
-}
-
 // Splits a row into its fields.
 pub fn split(row: &[u8]) -> Starts
     ensures { result ≡ split_of row.now }
 {
-    let mut starts = no_starts();
-    let mut n: usize = 0;
-    let mut at: usize = 0;
-    while at <= row.len() {
-        at = at + index_of(&row[at..], 32) + 1;
-        n += 1;
-        if n < 16 {
-            starts[n] = at;
+    let mut at = [0; 16];
+    let mut count = 0;
+    let mut next = 0;
+    for field in row.split(|b| *b == 32) {
+        next += field.len() + 1;
+        count += 1;
+        if count < 16 {
+            at[count] = next;
         }
     }
-    Starts {
-        at: starts,
-        count: n,
-    }
+    Starts { at, count }
 }
 
 // The field of a row in a column, by where the row's fields start: one of the first 15 columns; nothing in any other.
@@ -114,22 +76,13 @@ pub fn field<'a>(row: &'a [u8], starts: &[usize; 16], k: usize) -> &'a [u8]
 pub fn is_header(line: &[u8], names: &[u8]) -> bool
     ensures { result ≡ names_once (fields_in names.now) (fields_in line.now) }
 {
-    let s = split(line);
-    let wanted = split(names);
-    if s.count != wanted.count {
+    let columns = line.split(|b| *b == 32).count();
+    if columns != names.split(|b| *b == 32).count() {
         return false;
     }
-    let mut n = names;
-    loop {
-        let i = index_of(n, 32);
-        if s.count <= column(line, &n[..i]) {
-            return false;
-        }
-        if n.len() <= i {
-            return true;
-        }
-        n = &n[i + 1..];
-    }
+    names
+        .split(|b| *b == 32)
+        .all(|name| column(line, name) < columns)
 }
 
 // The place of the byte 10 that ends the line at a place; the text's end, or a place beyond it, where none is left.

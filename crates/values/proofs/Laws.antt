@@ -1,124 +1,122 @@
 -- One step and the end of each definition over what is left of a field.
 -- Assumes nothing.
-use mathlib.Core.Path.{◌≡◌, refl, ◌∙◌}
-use mathlib.Core.Bool.{Bool, true, false, cond, ◌&&◌, ◌||◌}
-use mathlib.Core.List.{List, [], ◌∷◌, ◌++◌, append_assoc}
-use mathlib.Core.Option.{none, some}
-use Prim.Native.Nat.{ℕ, suc, ◌+◌, ◌*◌, ◌-◌, ◌≤◌, ◌<◌}
-use native.Mathlib.Omega.{arith}
-use lib.ListN.{length, get_or, take, drop, set, replicate, length-append, length-replicate}
-use lib.Seq.{take-append_seam, set-append_seam}
-use lib.Dec.{eqb, leb, ltb}
-use borrow.Author.Tests.{le-leb, lt-leb, ltb-false}
-use Rattle.rules.proofs.Facts.{neither_right}
+use Rattle.std.proofs.Common.{◌≡◌, refl, ◌∙◌, Bool, true, false, cond, ◌&&◌, ◌||◌, List, [], ◌∷◌, ◌++◌, append_assoc, ℕ, suc, ◌+◌, ◌*◌, ◌-◌, ◌≤◌, ◌<◌, arith, length, get_or, take, drop, set, replicate, length-append, Option, None, Some, option_map, eqb, leb, ltb}
+use Rattle.std.proofs.lemmas.List.{length-replicate}
+use lib.Seq.{take-append_seam, set-append_seam, take_all}
+use borrow.Author.Tests.{le-leb, lt-leb, leb-true, ltb-false}
+use Rattle.rules.proofs.Facts.{and_right, neither_right}
 use Rattle.label.specs.declared.Label.{Label}
 use Rattle.label.specs.Tags.{with_digit}
 use Rattle.text.proofs.Laws.{step, at_end}
+use Rattle.values.specs.Options.{◌>>=◌}
 use Rattle.values.specs.Values.{digit_of, decimal_from, decimal_of, set_from, pairs_from}
-use Rattle.values.specs.Answers.{data_bytes, no_bytes}
+use Rattle.values.specs.declared.Data.{Data}
+use Rattle.values.specs.Answers.{data_bytes, as_data}
 
 -- decimal_from
 module _ (max n : ℕ) (s : List ℕ) (i : ℕ) where
-  pub dec_end : length s ≤ i → decimal_from max n (drop i s) ≡ some n
+  pub dec_end : length s ≤ i → decimal_from max n (drop i s) ≡ Some n
   unfolding decimal_from
   dec_end h = rw (at_end s i h, decimal_from)
 
-  module _ (d : ℕ) (e : d ≡ digit_of (get_or s i 0)) (h : i < length s) where
-    pub dec_step : leb 10 d || ltb max (n * 10 + d) ≡ false → decimal_from max n (drop i s) ≡ decimal_from max (n * 10 + d) (drop (i + 1) s)
-    unfolding decimal_from
-    dec_step k = rw (step s i h, decimal_from, ← e, k)
+  pub dec_none : i < length s → None ≡ digit_of (get_or s i 0) → decimal_from max n (drop i s) ≡ None
+  unfolding decimal_from
+  dec_none h e = rw (step s i h, decimal_from, ← e)
 
-    pub dec_bad : leb 10 d || ltb max (n * 10 + d) ≡ true → decimal_from max n (drop i s) ≡ none
-    unfolding decimal_from
-    dec_bad k = rw (step s i h, decimal_from, ← e, k)
-
-no_value : {k : ℕ} → none ≡ some k → ⊥
-no_value {k} e = let z : ◌≡◌ {A = ℕ} 0 1 = cc in omega arith
+  pub dec_step : (d : ℕ) → i < length s → Some d ≡ digit_of (get_or s i 0)
+      → decimal_from max n (drop i s) ≡ cond (leb 10 d || ltb max (n * 10 + d)) None (decimal_from max (n * 10 + d) (drop (i + 1) s))
+  unfolding decimal_from
+  dec_step d h e = rw (step s i h, decimal_from, ← e)
 
 -- a decimal number is at most its maximum
-decimal-from : (max n : ℕ) (s : List ℕ) (k : ℕ) → n ≤ max → decimal_from max n s ≡ some k → k ≤ max
+decimal-from : (max n : ℕ) (s : List ℕ) (k : ℕ) → n ≤ max → decimal_from max n s ≡ Some k → k ≤ max
 unfolding decimal_from
 decimal-from max n [] k h e = let q : n ≡ k = cc in omega arith
-decimal-from max n (b ∷ bs) k h e = go (n * 10 + digit_of b) (leb 10 (digit_of b) || ltb max (n * 10 + digit_of b)) refl (decimal-from max (n * 10 + digit_of b) bs k) e
+decimal-from max n (b ∷ bs) k h e = go (digit_of b) (λ d. decimal-from max (n * 10 + d) bs k) e
   where
-    go : (m : ℕ) (t : Bool) → leb 10 (digit_of b) || ltb max m ≡ t → (m ≤ max → decimal_from max m bs ≡ some k → k ≤ max) → cond t none (decimal_from max m bs) ≡ some k → k ≤ max
-    go m true q ih f = absurd (no_value f)
-    go m false q ih f = ih (ltb-false _ _ (neither_right (leb 10 (digit_of b)) _ q)) f
+    more : (d : ℕ) (t : Bool) → leb 10 d || ltb max (n * 10 + d) ≡ t → (n * 10 + d ≤ max → decimal_from max (n * 10 + d) bs ≡ Some k → k ≤ max)
+        → cond t None (decimal_from max (n * 10 + d) bs) ≡ Some k → k ≤ max
+    more d true q ih f = absurd cc
+    more d false q ih f = ih (ltb-false _ _ (neither_right (leb 10 d) _ q)) f
 
-pub decimal_le : (max : ℕ) (s : List ℕ) (k : ℕ) → decimal_of max s ≡ some k → k ≤ max
+    go : (o : Option ℕ) → ((d : ℕ) → n * 10 + d ≤ max → decimal_from max (n * 10 + d) bs ≡ Some k → k ≤ max)
+        → (o >>= λ d. cond (leb 10 d || ltb max (n * 10 + d)) None (decimal_from max (n * 10 + d) bs)) ≡ Some k → k ≤ max
+    go None ih f = absurd cc
+    go (Some d) ih f = more d (leb 10 d || ltb max (n * 10 + d)) refl (ih d) f
+
+pub decimal_le : (max : ℕ) (s : List ℕ) (k : ℕ) → decimal_of max s ≡ Some k → k ≤ max
 unfolding decimal_of
 decimal_le max s k e = go (eqb (length s) 0) (ltb 1 (length s) && eqb (get_or s 0 0) 48) e
   where
-    go : (t u : Bool) → cond t none (cond u none (decimal_from max 0 s)) ≡ some k → k ≤ max
-    go true u f = absurd (no_value f)
-    go false true f = absurd (no_value f)
+    go : (t u : Bool) → cond t None (cond u None (decimal_from max 0 s)) ≡ Some k → k ≤ max
+    go true u f = absurd cc
+    go false true f = absurd cc
     go false false f = decimal-from max 0 s k (omega arith) f
-
--- digit_of
-pub nib_below : (b : ℕ) → b < 48 → digit_of b ≡ 16
-unfolding digit_of
-nib_below b h = simp (lt-leb 48 b h, lt-leb 97 b (omega arith))
-
-pub nib_digit : (b : ℕ) → 48 ≤ b → b ≤ 57 → digit_of b ≡ b - 48
-unfolding digit_of
-nib_digit b h k = simp (le-leb 48 b h, le-leb b 57 k)
-
-pub nib_between : (b : ℕ) → 57 < b → b < 97 → digit_of b ≡ 16
-unfolding digit_of
-nib_between b h k = simp (le-leb 48 b (omega arith), lt-leb b 57 h, lt-leb 97 b k)
-
-pub nib_letter : (b : ℕ) → 97 ≤ b → b ≤ 102 → digit_of b ≡ b - 87
-unfolding digit_of
-nib_letter b h k = simp (le-leb 48 b (omega arith), lt-leb b 57 (omega arith), le-leb 97 b h, le-leb b 102 k)
-
-pub nib_above : (b : ℕ) → 102 < b → digit_of b ≡ 16
-unfolding digit_of
-nib_above b h = simp (le-leb 48 b (omega arith), lt-leb b 57 (omega arith), le-leb 97 b (omega arith), lt-leb b 102 h)
 
 -- set_from
 module _ (l : Label) (s : List ℕ) (i : ℕ) where
-  pub set_end : length s ≤ i → set_from l (drop i s) ≡ some l
+  pub set_end : length s ≤ i → set_from l (drop i s) ≡ Some l
   unfolding set_from
   set_end h = rw (at_end s i h, set_from)
 
-  module _ (d : ℕ) (e : d ≡ digit_of (get_or s i 0)) (h : i < length s) where
-    pub set_step : d < 16 → set_from l (drop i s) ≡ set_from (with_digit l d) (drop (i + 1) s)
-    unfolding set_from
-    set_step k = rw (step s i h, set_from, ← e, lt-leb _ _ k)
+  pub set_none : i < length s → None ≡ digit_of (get_or s i 0) → set_from l (drop i s) ≡ None
+  unfolding set_from
+  set_none h e = rw (step s i h, set_from, ← e)
 
-    pub set_other : 16 ≤ d → set_from l (drop i s) ≡ none
-    unfolding set_from
-    set_other k = rw (step s i h, set_from, ← e, le-leb _ _ k)
+  pub set_step : (d : ℕ) → i < length s → Some d ≡ digit_of (get_or s i 0) → set_from l (drop i s) ≡ set_from (with_digit l d) (drop (i + 1) s)
+  unfolding set_from
+  set_step d h e = rw (step s i h, set_from, ← e)
 
--- pairs_from
-module _ (max : ℕ) (bs s : List ℕ) (i : ℕ) where
-  pub pairs_end : length s ≤ i → pairs_from max bs (drop i s) ≡ some bs
+-- a digit is below 16
+pub digit_below : (b d : ℕ) → Some d ≡ digit_of b → d < 16
+unfolding digit_of
+digit_below b d e = go (leb 48 b && leb b 57) (leb 97 b && leb b 102) refl refl e
+  where
+    go : (t u : Bool) → leb 48 b && leb b 57 ≡ t → leb 97 b && leb b 102 ≡ u → Some d ≡ cond t (Some (b - 48)) (cond u (Some (b - 87)) None) → d < 16
+    go true u p q e = let k : d ≡ b - 48 = cc in let m = leb-true b 57 (and_right (leb 48 b) _ p) in omega arith
+    go false true p q e = let k : d ≡ b - 87 = cc in let m = leb-true b 102 (and_right (leb 97 b) _ q) in omega arith
+    go false false p q e = absurd cc
+
+-- pairs_from: what is left is one pair and the rest, a half of a pair, or nothing
+module _ (max : ℕ) (bs : List ℕ) where
+  pair_is : (s : List ℕ) (x y : ℕ) → 2 ≤ length s → Some x ≡ digit_of (get_or s 0 0) → Some y ≡ digit_of (get_or s 1 0)
+      → pairs_from max bs s ≡ cond (leb max (length bs)) None (pairs_from max (bs ++ ((x * 16 + y) ∷ [])) (take (length s - 2) (drop 2 s)))
   unfolding pairs_from
-  pairs_end h = rw (at_end s i h)
+  pair_is [] x y h e f = absurd (omega arith)
+  pair_is (b ∷ []) x y h e f = absurd (omega arith)
+  pair_is (b ∷ l ∷ s) x y h e f = rw (← e, ← f, take_all (suc (suc (length s)) - 2) s (omega arith))
 
-  pub pairs_odd : i < length s → length s ≤ i + 1 → pairs_from max bs (drop i s) ≡ none
+  pub pairs_end : (s : List ℕ) → length s ≡ 0 → pairs_from max bs s ≡ Some bs
   unfolding pairs_from
-  pairs_odd h k = rw (step s i h, at_end s (i + 1) k)
+  pairs_end [] h = refl
+  pairs_end (b ∷ s) h = absurd (omega arith)
 
-  module _ (h : i + 1 < length s) (x y : ℕ) (ex : x ≡ digit_of (get_or s i 0)) (ey : y ≡ digit_of (get_or s (i + 1) 0)) where
-    two : drop i s ≡ get_or s i 0 ∷ get_or s (i + 1) 0 ∷ drop (i + 2) s
-    two =
-        let e : i + 1 + 1 ≡ i + 2 = omega arith in
-        step s i (omega arith) ∙ rw (step s (i + 1) h, e)
+  pub pairs_odd : (s : List ℕ) → length s ≡ 1 → pairs_from max bs s ≡ None
+  unfolding pairs_from
+  pairs_odd [] h = absurd (omega arith)
+  pairs_odd (b ∷ []) h = refl
+  pairs_odd (b ∷ l ∷ s) h = absurd (omega arith)
 
-    pub pairs_bad : (leb 16 x || leb 16 y) || leb max (length bs) ≡ true → pairs_from max bs (drop i s) ≡ none
-    unfolding pairs_from
-    pairs_bad k = rw (two, pairs_from, ← ex, ← ey, k)
+  pub pairs_high : (s : List ℕ) → 2 ≤ length s → None ≡ digit_of (get_or s 0 0) → pairs_from max bs s ≡ None
+  unfolding pairs_from
+  pairs_high [] h e = absurd (omega arith)
+  pairs_high (b ∷ []) h e = absurd (omega arith)
+  pairs_high (b ∷ l ∷ s) h e = rw (← e)
 
-    pub pairs_step : (leb 16 x || leb 16 y) || leb max (length bs) ≡ false → pairs_from max bs (drop i s) ≡ pairs_from max (bs ++ ((x * 16 + y) ∷ [])) (drop (i + 2) s)
-    unfolding pairs_from
-    pairs_step k = rw (two, pairs_from, ← ex, ← ey, k)
+  pub pairs_low : (s : List ℕ) (x : ℕ) → 2 ≤ length s → Some x ≡ digit_of (get_or s 0 0) → None ≡ digit_of (get_or s 1 0) → pairs_from max bs s ≡ None
+  unfolding pairs_from
+  pairs_low [] x h e f = absurd (omega arith)
+  pairs_low (b ∷ []) x h e f = absurd (omega arith)
+  pairs_low (b ∷ l ∷ s) x h e f = rw (← e, ← f)
+
+  module _ (s : List ℕ) (x y : ℕ) (e : Some x ≡ digit_of (get_or s 0 0)) (f : Some y ≡ digit_of (get_or s 1 0)) where
+    pub pairs_full : 2 ≤ length s → max ≤ length bs → pairs_from max bs s ≡ None
+    pairs_full h k = pair_is s x y h e f ∙ rw (le-leb max (length bs) k)
+
+    pub pairs_step : 2 ≤ length s → length bs < max → pairs_from max bs s ≡ pairs_from max (bs ++ ((x * 16 + y) ∷ [])) (take (length s - 2) (drop 2 s))
+    pairs_step h k = pair_is s x y h e f ∙ rw (lt-leb max (length bs) k)
 
 -- the bytes in an array of 255
-pub bytes-none : data_bytes [] ≡ no_bytes
-unfolding data_bytes no_bytes
-bytes-none = refl
-
 pub length-bytes : (bs : List ℕ) → length bs ≤ 255 → length (data_bytes bs) ≡ 255
 unfolding data_bytes
 length-bytes bs h = simp (length-append, length-replicate) (omega arith)
@@ -134,9 +132,14 @@ bytes-more bs b h =
     let f : 255 - length (bs ++ (b ∷ [])) ≡ 254 - length bs = omega (arith, length-append bs (b ∷ [])) in
     rw (e, f, append_assoc) (set-append_seam bs 0 (replicate (254 - length bs) 0) b)
 
+-- what the code answers for data comes from bytes
+pub data_said : (d : Data) (o : Option (List ℕ)) → Some d ≡ option_map as_data o → (bs : List ℕ) × (o ≡ Some bs) × (d ≡ as_data bs)
+data_said d None e = absurd cc
+data_said d (Some bs) e = (bs, refl, cc)
+
 -- what a loop over pairs holds: the bytes so far, in an array of 255, and the pairs that are left
-pub record Paired (max : ℕ) (s bytes : List ℕ) (n i : ℕ) : Type 0 where
+pub record Paired (max : ℕ) (s bytes : List ℕ) (n : ℕ) (left : List ℕ) : Type 0 where
   pub bs : List ℕ
   pub count : length bs ≡ n
   pub kept : bytes ≡ data_bytes bs
-  pub says : pairs_from max bs (drop i s) ≡ pairs_from max [] s
+  pub says : pairs_from max bs left ≡ pairs_from max [] s

@@ -1,183 +1,119 @@
 // What a field says: a decimal number, a set of tags, or data.
 #![tactic(auto)]
 
-ghost use Rattle.std.specs.Prelude.{[], ◌≡◌};
-ghost use Rattle.std.proofs.Math.Option.{none, some};
+ghost use Rattle.std.specs.Prelude.{[], ◌≡◌, option_map};
 ghost use Rattle.label.specs.Tags.{empty};
 ghost use Rattle.values.specs.Values.{digit_of, decimal_from, decimal_of, set_from, hex_set_of, pairs_from, data_of};
-ghost use Rattle.values.specs.Answers.{as_number, as_tags, as_data, no_bytes};
+ghost use Rattle.values.specs.Answers.{as_data};
 
 use label::Label;
 
-// What a field of decimal digits says.
-#[derive(Clone, Copy)]
-pub enum Number {
-    Value(u8),
-    Bad,
-}
-
-// What a field of hexadecimal digits says.
-#[derive(Clone, Copy)]
-pub enum Tags {
-    Set(Label),
-    Bad,
-}
-
-// How many bytes a field of data holds.
-#[derive(Clone, Copy)]
-pub enum Size {
-    Bytes(usize),
-    Bad,
-}
-
-// What a field of data says: its bytes at the front, zeros after them.
+// The bytes that a field of data says, the first len of some with zeros after them.
 #[derive(Clone, Copy)]
 pub struct Data {
-    pub size: Size,
     pub bytes: [u8; 255],
+    pub len: usize,
 }
 
-// What a digit says, or 16.
-pub fn digit(b: u8) -> u8
+// What a digit says.
+#[tactic(auto, unfolding(crate::specs::Values::digit_of))]
+pub fn digit(b: u8) -> Option<u8>
     ensures { result ≡ digit_of b }
 {
-    if b < 48 {
-        return 16;
+    match b {
+        b'0'..=b'9' => Some(b - 48),
+        b'a'..=b'f' => Some(b - 87),
+        _ => None,
     }
-    if b <= 57 {
-        return b - 48;
-    }
-    if b < 97 {
-        return 16;
-    }
-    if b <= 102 {
-        return b - 87;
-    }
-    16
 }
 
 // Decimal digits of a value of at most max.
-fn digits(s: &[u8], max: u8) -> Number
-    ensures { result ≡ as_number (decimal_from max 0 s.now) }
+fn digits(s: &[u8], max: u8) -> Option<u8>
+    ensures { result ≡ decimal_from max 0 s.now }
 {
-    let top = max as u64;
+    let top = u64::from(max);
     let mut n: u64 = 0;
-    let mut i = 0;
-    while i < s.len() {
-        let d = digit(s[i]) as u64;
-        n = n * 10 + d;
-        if (10 <= d) | (top < n) {
-            return Number::Bad;
+    for b in s {
+        let d = digit(*b)?;
+        n = n * 10 + u64::from(d);
+        if 10 <= d || top < n {
+            return None;
         }
-        i += 1;
     }
-    Number::Value(n as u8)
+    Some(n as u8)
 }
 
 // A decimal field, 0 to max, without leading zeros.
-pub fn decimal(s: &[u8], max: u8) -> Number
-    ensures { result ≡ as_number (decimal_of max s.now) }
+#[tactic(auto, unfolding(crate::specs::Values::decimal_of))]
+pub fn decimal(s: &[u8], max: u8) -> Option<u8>
+    ensures { result ≡ decimal_of max s.now }
 {
-    if s.len() == 0 {
-        return Number::Bad;
-    }
-    if (1 < s.len()) & (s[0] == 48) {
-        return Number::Bad;
+    if s.len() == 0 || (1 < s.len() && s[0] == 48) {
+        return None;
     }
     digits(s, max)
 }
 
 // Hexadecimal digits.
-fn hex_digits(s: &[u8]) -> Tags
-    ensures { result ≡ as_tags (set_from empty s.now) }
+fn hex_digits(s: &[u8]) -> Option<Label>
+    ensures { result ≡ set_from empty s.now }
 {
     let mut l = label::empty();
-    let mut i = 0;
-    while i < s.len() {
-        let d = digit(s[i]);
-        if 16 <= d {
-            return Tags::Bad;
-        }
-        l = label::with_digit(l, d);
-        i += 1;
+    for b in s {
+        l = label::with_digit(l, digit(*b)?);
     }
-    Tags::Set(l)
+    Some(l)
 }
 
 // A set: 1 to 16 hexadecimal digits.
-pub fn hex_set(s: &[u8]) -> Tags
-    ensures { result ≡ as_tags (hex_set_of s.now) }
+#[tactic(auto, unfolding(crate::specs::Values::hex_set_of))]
+pub fn hex_set(s: &[u8]) -> Option<Label>
+    ensures { result ≡ hex_set_of s.now }
 {
-    if (s.len() < 1) | (16 < s.len()) {
-        return Tags::Bad;
+    if s.len() < 1 || 16 < s.len() {
+        return None;
     }
     hex_digits(s)
 }
 
-fn no_bytes() -> [u8; 255]
-    ensures { result ≡ no_bytes }
+#[tactic(auto, unfolding(crate::specs::Answers::data_bytes))]
+fn empty_data() -> Data
+    ensures { result ≡ as_data [] }
 {
-    [0u8; 255]
-}
-
-// What a bad field of data gives.
-pub fn no_data() -> Data
-    ensures { result ≡ as_data none }
-{
-    let bytes = no_bytes();
     Data {
-        size: Size::Bad,
-        bytes: bytes,
-    }
-}
-
-// What `-` gives.
-pub fn empty_data() -> Data
-    ensures { result ≡ as_data (some []) }
-{
-    let bytes = no_bytes();
-    Data {
-        size: Size::Bytes(0),
-        bytes: bytes,
+        bytes: [0; 255],
+        len: 0,
     }
 }
 
 // Two digits a byte, at most max bytes.
-fn pairs(s: &[u8], max: u8) -> Data
-    ensures { result ≡ as_data (pairs_from max [] s.now) }
+fn pairs(s: &[u8], max: u8) -> Option<Data>
+    ensures { result ≡ option_map as_data (pairs_from max [] s.now) }
 {
-    let top = max as usize;
-    let mut bytes = no_bytes();
-    let mut n: usize = 0;
-    let mut i: usize = 0;
-    while i < s.len() {
-        if s.len() <= i + 1 {
-            return no_data();
+    let mut data = empty_data();
+    let mut left = s;
+    while let [h, l, rest @ ..] = left {
+        let b = digit(*h)? * 16 + digit(*l)?;
+        if usize::from(max) <= data.len {
+            return None;
         }
-        let h = digit(s[i]);
-        let l = digit(s[i + 1]);
-        if (16 <= h) | (16 <= l) | (top <= n) {
-            return no_data();
-        }
-        bytes[n] = h * 16 + l;
-        n += 1;
-        i += 2;
+        data.bytes[data.len] = b;
+        data.len += 1;
+        left = rest;
     }
-    Data {
-        size: Size::Bytes(n),
-        bytes: bytes,
-    }
+    if left.is_empty() { Some(data) } else { None }
 }
 
 // A data field: `-`, or two digits a byte, at most max bytes.
-pub fn data_field(s: &[u8], max: u8) -> Data
-    ensures { result ≡ as_data (data_of max s.now) }
+#[tactic(auto, unfolding(crate::specs::Values::data_of))]
+pub fn data_field(s: &[u8], max: u8) -> Option<Data>
+    ensures { result ≡ option_map as_data (data_of max s.now) }
 {
     if text::same(s, b"-") {
-        return empty_data();
+        return Some(empty_data());
     }
     if s.len() == 0 {
-        return no_data();
+        return None;
     }
     pairs(s, max)
 }

@@ -1,12 +1,19 @@
-use mathlib.Core.Path.{ap, ◌∙◌}
+use Rattle.std.proofs.Common.{sym, ap, ◌∙◌, arith, option_map}
+use Rattle.text.specs.declared.Starts.{Starts}
+use Rattle.values.specs.declared.Data.{Data}
+use Rattle.values.proofs.Laws.{data_said}
 use Rattle.rows.specs.Entities.{as_entity_row}
-use Rattle.rows.proofs.Laws.{row_entity}
+use Rattle.rows.proofs.Laws.{row_short, row_entity, formed_block}
 use Rattle.rows.proofs.entity_row.Goals as goal
 
 -- `rows::entity_row` meets its contract. Assumes nothing.
 
+pub returns-then-s-ne9 : goal.returns-then-s-ne9
+returns-then-s-ne9 c =
+    ap (option_map as_entity_row) (sym (row_short c.args.columns c.args.row.now (omega (arith, ap (λ (s : Starts). s.count) c.split-s.ensures))))
+
 pub returns : goal.returns
 returns c =
-    c.entity_by.ensures
-    ∙ simp (c.field.ensures, c.field-2.ensures, c.field-3.ensures, c.field-4.ensures, c.field-5.ensures, c.field-6.ensures, c.field-7.ensures, c.field-8.ensures, c.field-9.ensures, c.split-s.ensures)
-    (ap as_entity_row (row_entity c.args.columns c.args.row.now))
+    let d = data_said _ _ c.in_ok-content.ensures in
+    let p = formed_block _ d.0 (sym c.entity_formed.ensures ∙ c.if-not-entity_formed.false) (ap (λ (d : Data). d.len) d.2) in
+    grind (arith, row_entity)

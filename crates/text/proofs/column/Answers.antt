@@ -1,28 +1,23 @@
-use Prim.Native.Nat.{◌+◌}
-use mathlib.Core.Path.{sym, ◌∙◌}
-use lib.Seq.{length-take-le}
-use native.Mathlib.Omega.{arith}
-use Rattle.text.proofs.Laws.{rest, index_le}
-use Rattle.text.proofs.Fields.{column_here, column_none, column_next}
-use borrow.Author.Rules.{rules}
+use Rattle.std.proofs.Common.{rules, ◌∙◌, sym}
+use borrow.Author.Tests.{tests}
+use mathlib.Core.Bool.{not}
+use Rattle.std.specs.Str.{bytes_eq}
+use Rattle.std.proofs.lemmas.Iterator.Consumers.{YieldsList-at, count_from_yields_List}
+use Rattle.std.proofs.lemmas.Iterator.Search.{YieldsList-from_take_while}
+use Rattle.std.proofs.lemmas.List.Folds.{length-prefix_len}
+use Rattle.text.specs.Lines.{fields_in}
+use Rattle.text.proofs.Fields.{gives_fields, column_is}
 use Rattle.text.proofs.column.Goals as goal
 
-pub loop-h-init : goal.loop-h-init
-loop-h-init c = (omega arith, omega arith)
+-- `text::column` meets its contract. Assumes nothing.
 
-pub slice_bounds-same-end : goal.slice_bounds-same-end
-slice_bounds-same-end c = let h = c.loop-h.h.now in sym (length-take-le c.index_of-i.result h (omega (arith, index_le 32 h)))
-
-pub returns-then-same : goal.returns-then-same
-returns-then-same c =
-    let l = c.loop-h in omega (arith, column_here _ _ _ c.index_of-i.ensures (sym c.same.ensures ∙ c.if-same.true), l.invariant.1)
-
-pub returns-then-h-i : goal.returns-then-h-i
-returns-then-h-i c =
-    let l = c.loop-h in omega (arith, column_none _ _ _ c.index_of-i.ensures (sym c.same.ensures ∙ c.if-same.false) c.if-h-i.true, l.invariant.1)
-
-pub loop-h-preserved : goal.loop-h-preserved
-loop-h-preserved c = let l = c.loop-h in (
-  search rules,
-  rw (rest l.h.now (c.index_of-i.result + 1)) (omega (arith, column_next _ _ _ c.index_of-i.ensures (sym c.same.ensures ∙ c.if-same.false) c.if-h-i.false, l.invariant.1)),
-)
+pub returns : goal.returns
+returns c =
+    let l = c.args.line.now in
+    let n = c.args.name.now in
+    count_from_yields_List c.take_while.result c.count.result c.count.ensures.ran
+    (YieldsList-from_take_while _ (λ h. not (bytes_eq h n))
+    (YieldsList-at c.take_while.ensures.source (gives_fields _ l c.split.ensures.rest c.split.ensures.done c.split.ensures.closure (λ x b q k. search (rules, tests))))
+    c.take_while.ensures.closure c.take_while.ensures.done (λ x b q k. search (rules, tests)))
+    ∙ length-prefix_len (λ h. not (bytes_eq h n)) (fields_in l)
+    ∙ sym (column_is n (fields_in l))

@@ -1,43 +1,28 @@
-use Prim.Native.Nat.{◌+◌}
-use mathlib.Core.Path.{sym, ap, ◌∙◌}
-use native.Mathlib.Omega.{arith}
+use Rattle.std.proofs.Common.{rules, ◌∙◌, sym}
+use borrow.Author.Tests.{tests, eq-eqb, ne_eqb}
 use lib.ListN.{length}
-use lib.Seq.{length-take-le}
-use borrow.Author.Tests.{eq-eqb, ne_eqb}
-use Rattle.text.specs.declared.Starts.{Starts}
-use Rattle.text.specs.Lines.{fields_in, names_once}
-use Rattle.text.proofs.Laws.{rest, index_le}
-use Rattle.text.proofs.Fields.{count_is, all_miss, all_last, all_next}
-use borrow.Author.Rules.{rules}
+use lib.Dec.{ltb}
+use Rattle.std.proofs.lemmas.Iterator.Consumers.{count_from_yields_List}
+use Rattle.std.proofs.lemmas.Iterator.Search.{all_from_yields_List}
+use Rattle.text.specs.Lines.{fields_in, column_of, names_once}
+use Rattle.text.proofs.Fields.{gives_fields, all_named}
 use Rattle.text.proofs.is_header.Goals as goal
 
-pub returns-then-s-wanted : goal.returns-then-s-wanted
+-- `text::is_header` meets its contract. Assumes nothing.
+
+pub returns-then-columns-count : goal.returns-then-columns-count
 unfolding names_once
-returns-then-s-wanted c =
-    let a = c.args in let x = ap (λ (y : Starts). y.count) c.split-s.ensures ∙ count_is a.line.now in
-    let y = ap (λ (y : Starts). y.count) c.split-wanted.ensures ∙ count_is a.names.now in
-    sym (rw (ne_eqb (length (fields_in a.line.now)) (length (fields_in a.names.now)) (λ q. c.if-s-wanted.true (x ∙ q ∙ sym y))))
+returns-then-columns-count c =
+    let l = c.args.line.now in let n = c.args.names.now in
+    let x = count_from_yields_List c.split.result _ c.count-columns.ensures.ran (gives_fields _ l c.split.ensures.rest c.split.ensures.done c.split.ensures.closure (λ x b q k. search (rules, tests))) in
+    let y = count_from_yields_List c.split-2.result _ c.count.ensures.ran (gives_fields _ n c.split-2.ensures.rest c.split-2.ensures.done c.split-2.ensures.closure (λ x b q k. search (rules, tests))) in
+    sym (rw (ne_eqb (length (fields_in l)) (length (fields_in n)) (λ q. c.if-columns-count.true (x ∙ q ∙ sym y))))
 
-pub loop-n-init : goal.loop-n-init
+pub returns : goal.returns
 unfolding names_once
-loop-n-init c =
-    let a = c.args in let x = ap (λ (y : Starts). y.count) c.split-s.ensures ∙ count_is a.line.now in
-    let y = ap (λ (y : Starts). y.count) c.split-wanted.ensures ∙ count_is a.names.now in
-    (omega arith, x, sym (rw (eq-eqb (length (fields_in a.line.now)) (length (fields_in a.names.now)) (sym x ∙ c.if-s-wanted.false ∙ y))))
-
-pub slice_bounds-column-end : goal.slice_bounds-column-end
-slice_bounds-column-end c = sym (length-take-le c.index_of-i.result c.loop-n.n.now (omega (arith, index_le 32 c.loop-n.n.now)))
-
-pub returns-then-s-column : goal.returns-then-s-column
-returns-then-s-column c = let l = c.loop-n in sym (all_miss _ _ _ c.index_of-i.ensures (omega (arith, c.column.ensures, c.if-s-column.true, l.invariant.1))) ∙ l.invariant.2
-
-pub returns-then-n-i : goal.returns-then-n-i
-returns-then-n-i c = let l = c.loop-n in sym (all_last _ _ _ c.index_of-i.ensures (omega (arith, c.column.ensures, c.if-s-column.false, l.invariant.1)) c.if-n-i.true) ∙ l.invariant.2
-
-pub loop-n-preserved : goal.loop-n-preserved
-loop-n-preserved c =
-    let l = c.loop-n in (
-      search rules,
-      l.invariant.1,
-      rw (rest l.n.now (c.index_of-i.result + 1)) (sym (all_next _ _ _ c.index_of-i.ensures (omega (arith, c.column.ensures, c.if-s-column.false, l.invariant.1)) c.if-n-i.false) ∙ l.invariant.2),
-    )
+returns c =
+    let l = c.args.line.now in let n = c.args.names.now in
+    let x = count_from_yields_List c.split.result _ c.count-columns.ensures.ran (gives_fields _ l c.split.ensures.rest c.split.ensures.done c.split.ensures.closure (λ x b q k. search (rules, tests))) in
+    let y = count_from_yields_List c.split-2.result _ c.count.ensures.ran (gives_fields _ n c.split-2.ensures.rest c.split-2.ensures.done c.split-2.ensures.closure (λ x b q k. search (rules, tests))) in
+    let z = all_from_yields_List (λ m. ltb (column_of m (fields_in l)) (length (fields_in l))) _ _ c.all.result c.all.ensures.ran (gives_fields _ n c.split-3.ensures.rest c.split-3.ensures.done c.split-3.ensures.closure (λ x b q k. search (rules, tests))) (λ m b q k. search (rules, tests, x)) in
+    z ∙ sym (rw (eq-eqb (length (fields_in l)) (length (fields_in n)) (sym x ∙ c.if-columns-count.false ∙ y)) (all_named (fields_in n) (fields_in l)))

@@ -1,45 +1,57 @@
-use Prim.Native.Nat.{ℕ, ◌+◌, ◌≤◌, ◌-◌}
-use mathlib.Core.List.{List}
-use mathlib.Core.Path.{◌≡◌, sym, ap, ◌∙◌}
-use native.Mathlib.Omega.{arith}
-use lib.ListN.{length, take, drop, length-drop, length-set}
-use Rattle.text.specs.Bytes.{index_of}
+use Rattle.std.proofs.Common.{rules, ◌≡◌, ◌<◌, ◌∙◌, sym, refl, length, arith}
+use borrow.Author.Tests.{tests}
+use lib.ListN.{get_or, length-set, length-append}
+use Rattle.std.proofs.lemmas.Iterator.Consumers.{YieldsList-at, YieldsList-turn, YieldsList-end}
+use Rattle.text.specs.Lines.{fields_in}
 use Rattle.text.specs.Split.{no_starts, split_of}
-use Rattle.text.proofs.Laws.{rest, index_le}
-use Rattle.text.proofs.Fields.{from_some, split_more, split_full, split_end}
+use Rattle.text.proofs.Fields.{room_of, gives_fields, turn_room, turn_more, turn_full, turn_end}
 use Rattle.text.proofs.split.Goals as goal
 
--- where the space after a field stands, or the end
-space : (row : List ℕ) (at i : ℕ) → i ≡ index_of 32 (take (length row - at) (drop at row)) → at ≤ length row → (i ≡ index_of 32 (drop at row)) × (at + i ≤ length row)
-space row at i e h =
-    let f = e ∙ ap (index_of 32) (rest row at) in
-    (f, omega (arith, index_le 32 (drop at row), length-drop at row, f))
-
-pub loop-at-init : goal.loop-at-init
+pub loop-field-init : goal.loop-field-init
 unfolding split_of no_starts
-loop-at-init c = (omega arith, omega arith, ap length c.no_starts-starts.ensures, rw (from_some c.args.row.now 0 (omega arith), c.no_starts-starts.ensures))
+loop-field-init c = record { so_far = refl; below = omega arith; places = refl; left = omega (arith, room_of c.args.row.now); same = refl }
 
-pub overflow_add-at : goal.overflow_add-at
-overflow_add-at c = let h = space c.args.row.now c.loop-at.at _ c.index_of.ensures (omega arith) in omega arith
+pub overflow_add-next-in-loop-field : goal.overflow_add-next-in-loop-field
+overflow_add-next-in-loop-field c =
+    let r = c.args.row.now in let l = c.loop-field in let f = c.in-Some.field in
+    let t = YieldsList-turn (YieldsList-at c.into_iter-field-iterator.ensures.into_iter_gives (gives_fields _ r c.split-field-items.ensures.rest c.split-field-items.ensures.done c.split-field-items.ensures.closure (λ x b q k. search (rules, tests)))) l.yielded l.field-iterator l.yielded_by c.next.result c.next.new.self f c.in-Some.is c.next.ensures.steps in
+    let h : l.count < length (fields_in r) = omega (arith, l.invariant.so_far, t.0) in
+    let e : f.now ≡ get_or (fields_in r) l.count f.now = rw l.invariant.so_far t.1 in
+    let k = turn_room l.at l.count l.next f.now (fields_in r) h e in
+    omega (arith, k, l.invariant.left)
 
-pub overflow_add-at-in-loop-at : goal.overflow_add-at-in-loop-at
-overflow_add-at-in-loop-at c = let h = space c.args.row.now c.loop-at.at _ c.index_of.ensures (omega arith) in omega arith
+pub loop-field-preserved-then-count-lt16 : goal.loop-field-preserved-then-count-lt16
+loop-field-preserved-then-count-lt16 c =
+    let r = c.args.row.now in let l = c.loop-field in let f = c.in-Some.field in
+    let t = YieldsList-turn (YieldsList-at c.into_iter-field-iterator.ensures.into_iter_gives (gives_fields _ r c.split-field-items.ensures.rest c.split-field-items.ensures.done c.split-field-items.ensures.closure (λ x b q k. search (rules, tests)))) l.yielded l.field-iterator l.yielded_by c.next.result c.next.new.self f c.in-Some.is c.next.ensures.steps in
+    let h : l.count < length (fields_in r) = omega (arith, l.invariant.so_far, t.0) in
+    let e : f.now ≡ get_or (fields_in r) l.count f.now = rw l.invariant.so_far t.1 in
+    let k = turn_room l.at l.count l.next f.now (fields_in r) h e in
+    record {
+      so_far = simp length-append (omega (arith, l.invariant.so_far));
+      below = omega arith;
+      places = length-set l.at _ _ ∙ l.invariant.places;
+      left = omega (arith, k, l.invariant.left);
+      same = sym (turn_more l.at l.count l.next f.now (fields_in r) h e c.if-count-lt16.true) ∙ l.invariant.same;
+    }
 
-pub loop-at-smaller-then-n-lt16 : goal.loop-at-smaller-then-n-lt16
-loop-at-smaller-then-n-lt16 c = let h = space c.args.row.now c.loop-at.at _ c.index_of.ensures (omega arith) in omega arith
-
-pub loop-at-preserved-then-n-lt16 : goal.loop-at-preserved-then-n-lt16
-loop-at-preserved-then-n-lt16 c =
-    let l = c.loop-at in let h = space c.args.row.now l.at _ c.index_of.ensures (omega arith) in
-    (omega arith, omega arith, length-set l.starts _ _ ∙ l.invariant.2, sym (split_more _ l.starts l.n l.at _ (omega arith) h.0 c.if-n-lt16.true) ∙ l.invariant.3)
-
-pub loop-at-smaller : goal.loop-at-smaller
-loop-at-smaller c = let h = space c.args.row.now c.loop-at.at _ c.index_of.ensures (omega arith) in omega arith
-
-pub loop-at-preserved : goal.loop-at-preserved
-loop-at-preserved c =
-    let l = c.loop-at in let h = space c.args.row.now l.at _ c.index_of.ensures (omega arith) in
-    (omega arith, omega arith, l.invariant.2, sym (split_full _ l.starts l.n l.at _ (omega arith) h.0 c.if-n-lt16.false) ∙ l.invariant.3)
+pub loop-field-preserved : goal.loop-field-preserved
+loop-field-preserved c =
+    let r = c.args.row.now in let l = c.loop-field in let f = c.in-Some.field in
+    let t = YieldsList-turn (YieldsList-at c.into_iter-field-iterator.ensures.into_iter_gives (gives_fields _ r c.split-field-items.ensures.rest c.split-field-items.ensures.done c.split-field-items.ensures.closure (λ x b q k. search (rules, tests)))) l.yielded l.field-iterator l.yielded_by c.next.result c.next.new.self f c.in-Some.is c.next.ensures.steps in
+    let h : l.count < length (fields_in r) = omega (arith, l.invariant.so_far, t.0) in
+    let e : f.now ≡ get_or (fields_in r) l.count f.now = rw l.invariant.so_far t.1 in
+    let k = turn_room l.at l.count l.next f.now (fields_in r) h e in
+    record {
+      so_far = simp length-append (omega (arith, l.invariant.so_far));
+      below = omega arith;
+      places = l.invariant.places;
+      left = omega (arith, k, l.invariant.left);
+      same = sym (turn_full l.at l.count l.next f.now (fields_in r) h e c.if-count-lt16.false) ∙ l.invariant.same;
+    }
 
 pub returns : goal.returns
-returns c = let l = c.loop-at in sym (split_end _ l.starts l.n l.at c.loop-at-test.false) ∙ l.invariant.3
+returns c =
+    let r = c.args.row.now in let l = c.loop-field in
+    let t = YieldsList-end (YieldsList-at c.into_iter-field-iterator.ensures.into_iter_gives (gives_fields _ r c.split-field-items.ensures.rest c.split-field-items.ensures.done c.split-field-items.ensures.closure (λ x b q k. search (rules, tests)))) l.yielded l.field-iterator l.yielded_by c.next.result c.next.new.self c.in-None.is c.next.ensures.steps in
+    sym (turn_end l.at l.count l.next (fields_in r) (omega (arith, l.invariant.so_far, t.1))) ∙ l.invariant.same

@@ -1,14 +1,16 @@
-use Prim.Native.Nat.{◌+◌, ◌≤◌, ◌-◌}
-use mathlib.Core.Path.{◌≡◌}
-use lib.ListN.{length}
+use Rattle.std.proofs.Common.{◌≡◌, ◌+◌, ◌≤◌, length, drop}
+use Rattle.text.specs.Lines.{fields_in}
 use Rattle.text.specs.Split.{starts_from, split_of}
-use Rattle.text.proofs.Fields.{fields_from}
+use Rattle.text.proofs.Fields.{room}
 use Rattle.text.proofs.split.Given as goal
 
--- `text::split` meets its contract. The loop's invariant: the starts after the first n of the fields, with the fields that are left. Assumes nothing.
+-- `text::split` meets its contract. The loop's invariant: the starts after the fields so far, with the fields that are left. Assumes nothing.
 
-abbrev pub invariant-loop-at : goal.invariant-loop-at
-invariant-loop-at l = (l.n ≤ l.at) × (l.at ≤ length l.row + 1) × (length l.starts ≡ 16) × (starts_from l.starts l.n l.at (fields_from l.row l.at) ≡ split_of l.row)
-
-abbrev pub decreases-loop-at : goal.decreases-loop-at
-decreases-loop-at l = length l.row + 1 - l.at
+abbrev pub invariant-loop-field : goal.invariant-loop-field
+invariant-loop-field l = record {
+  so_far : l.count ≡ length l.yielded;
+  below : l.count ≤ l.next;
+  places : length l.at ≡ 16;
+  left : l.next + room (drop l.count (fields_in l.row)) ≡ length l.row + 1;
+  same : starts_from l.at l.count l.next (drop l.count (fields_in l.row)) ≡ split_of l.row;
+}

@@ -1,29 +1,19 @@
-use Prim.Native.Nat.{◌+◌, ◌*◌}
-use mathlib.Core.Path.{refl, sym, ap, ◌∙◌}
-use native.Mathlib.Omega.{arith}
-use lib.Dec.{leb}
-use borrow.Author.Tests.{ltb-false}
-use Rattle.rules.proofs.Facts.{neither_right}
-use Rattle.values.specs.Answers.{as_number}
-use Rattle.values.proofs.Laws.{dec_step, dec_bad, dec_end}
-use borrow.Author.Rules.{rules}
+use Rattle.std.proofs.Common.{arith, sym, ◌∙◌}
+use Rattle.std.proofs.lemmas.Bool.Decides.{nat_tests}
+use Rattle.values.proofs.Laws.{dec_end, dec_none, dec_step}
 use Rattle.values.proofs.digits.Goals as goal
 
-pub loop-i-init : goal.loop-i-init
-loop-i-init c = (search rules, search rules, refl, refl)
+pub returns-in_err-d : goal.returns-in_err-d
+returns-in_err-d c =
+    c.from_residual.ensures ∙ sym (dec_none _ _ _ _ c.loop-b-test.true c.in_err-d.ensures) ∙ c.loop-b.invariant.1
 
-pub returns-then-d-top : goal.returns-then-d-top
-returns-then-d-top c =
-    let l = c.loop-i in let a = c.args in ap as_number (sym (dec_bad a.max l.n _ _ c.digit-d.result c.digit-d.ensures c.loop-i-test.true c.if-d-top.true) ∙ l.invariant.3)
+pub returns-then-d-ge10 : goal.returns-then-d-ge10
+returns-then-d-ge10 c =
+    let e = dec_step c.args.max c.loop-b.n c.args.s.now c.loop-b.b-index c.in_ok-d.d c.loop-b-test.true c.in_ok-d.ensures in grind (arith, nat_tests)
 
-pub loop-i-preserved : goal.loop-i-preserved
-loop-i-preserved c =
-    let l = c.loop-i in let a = c.args in let d = c.digit-d.result in (
-      omega arith,
-      ltb-false a.max (l.n * 10 + d) (neither_right (leb 10 d) _ c.if-d-top.false),
-      l.invariant.2,
-      sym (dec_step a.max l.n _ _ d c.digit-d.ensures c.loop-i-test.true c.if-d-top.false) ∙ l.invariant.3,
-    )
+pub loop-b-preserved : goal.loop-b-preserved
+loop-b-preserved c =
+    let e = dec_step c.args.max c.loop-b.n c.args.s.now c.loop-b.b-index c.in_ok-d.d c.loop-b-test.true c.in_ok-d.ensures in grind (arith, nat_tests)
 
 pub returns : goal.returns
-returns c = ap as_number (sym (dec_end c.args.max c.loop-i.n _ _ c.loop-i-test.false) ∙ c.loop-i.invariant.3)
+returns c = sym (dec_end _ _ _ _ c.loop-b-test.false) ∙ c.loop-b.invariant.1
