@@ -81,7 +81,7 @@ fn kind_named(f: &[u8]) -> Option<Kind>
 fn entity_formed(e: Entity) -> bool
     ensures { result ≡ entity_formed e }
 {
-    !e.is_free() & e.is_formed()
+    !e.is_free() && e.is_formed()
 }
 
 // The entity of a line, by its columns.

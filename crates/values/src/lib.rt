@@ -21,8 +21,8 @@ pub fn digit(b: u8) -> Option<u8>
     ensures { result ≡ digit_of b }
 {
     match b {
-        b'0'..=b'9' => Some(b - 48),
-        b'a'..=b'f' => Some(b - 87),
+        b'0'..=b'9' => Some(b - b'0'),
+        b'a'..=b'f' => Some(b - b'a' + 10),
         _ => None,
     }
 }
@@ -48,7 +48,7 @@ fn digits(s: &[u8], max: u8) -> Option<u8>
 pub fn decimal(s: &[u8], max: u8) -> Option<u8>
     ensures { result ≡ decimal_of max s.now }
 {
-    if s.len() == 0 || (1 < s.len() && s[0] == 48) {
+    if s.is_empty() || (1 < s.len() && s[0] == b'0') {
         return None;
     }
     digits(s, max)
@@ -112,7 +112,7 @@ pub fn data_field(s: &[u8], max: u8) -> Option<Data>
     if text::same(s, b"-") {
         return Some(empty_data());
     }
-    if s.len() == 0 {
+    if s.is_empty() {
         return None;
     }
     pairs(s, max)
