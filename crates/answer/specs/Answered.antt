@@ -1,7 +1,7 @@
 -- Document 01, 'The record': the answer to a call, by its fields, what it saw, its outcome and its effect.
 -- Assumes nothing.
 use Rattle.std.specs.Prelude.{cond, ◌&&◌, min, eqb}
-use Rattle.rules.specs.declared.Outcome.{Outcome}
+use Rattle.rules.specs.Numbers.{Outcome}
 use Rattle.rules.specs.Table.{is_program}
 use Rattle.rules.specs.Refusals.{number_of, on_allowed}
 use Rattle.label.specs.declared.Label.{Label}

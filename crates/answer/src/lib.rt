@@ -8,12 +8,12 @@ ghost use Rattle.answer.specs.Answered.{answered_by};
 
 use decide::Seen;
 use entity::Entity;
-use rules::{Call, Outcome};
+use rules::{Call, Refusal};
 
 // What a call comes to: its outcome, and its record.
 #[derive(Clone, Copy)]
 pub struct Answer {
-    pub outcome: Outcome,
+    pub outcome: Result<(), Refusal>,
     pub entry: [u8; records::SIZE],
 }
 
@@ -27,11 +27,11 @@ pub struct Effect {
 }
 
 // The answer to a call, by what it saw, its outcome and its effect.
-pub fn answer_of(call: Call, seen: Seen, v: Outcome, x: Effect) -> Answer
+pub fn answer_of(call: Call, seen: Seen, v: Result<(), Refusal>, x: Effect) -> Answer
     ensures { result ≡ answered_by (fields_given (call_with call [] [])) seen v x }
 {
     let f = records::fields_of(call);
-    let own = decide::is_allowed(v) & (f.caller == x.slot);
+    let own = v.is_ok() & (f.caller == x.slot);
     let is = label::choose(own, x.entity.sec, seen.caller.sec);
     let all = label::union(label::union(seen.caller.sec, is), seen.other.sec);
     let need = label::choose(seen.formed & seen.caller.is_program(), all, label::empty());

@@ -1,9 +1,9 @@
 -- Copies of bytes from list to list, one at a turn, and what stands where after them.
 -- Assumes nothing.
-use mathlib.Core.Path.{◌≡◌, refl, sym, ap, ap₂, ◌∙◌}
+use mathlib.Core.Path.{◌≡◌, refl, sym, ap, ◌∙◌}
 use mathlib.Core.Logic.{⊎_elim, ◌⊎◌, inl, inr}
 use mathlib.Core.Bool.{Bool, true, false, ◌&&◌}
-use mathlib.Core.List.{List, [], ◌++◌}
+use mathlib.Core.List.{List, [], ◌∷◌, ◌++◌}
 use Prim.Native.Nat.{ℕ, zero, suc, ◌+◌, ◌*◌, ◌-◌, ◌≤◌, ◌<◌, min}
 use native.Mathlib.Numerals.{add-one}
 use native.Mathlib.Nat.{sub-zero, zero-sub, suc-sub-suc}
@@ -11,11 +11,19 @@ use native.Mathlib.Omega.{arith}
 use lib.Arith.{lt_of_le-ne}
 use lib.Dec.{eqb, ltb}
 use lib.ListN.{length, get_or, set, take, drop, replicate, length-drop, length-take, drop_of_length-le, get_or-append}
-use lib.Seq.{take-length, paste, paste-suc, get_or-drop, get_or-take, drop-cons, length_paste_head, length-paste, length-take-le, drop-paste, get_or-append-add, ext_get_or}
+use lib.Seq.{paste, paste-suc, get_or-drop, get_or-take, length_paste_head, length-paste, length-take-le, drop-paste, get_or-append-add, ext_get_or}
 use borrow.Author.Tests.{ltb-true, ltb-false, lt-ltb, le-ltb}
 use Rattle.rules.proofs.Facts.{either}
-use Rattle.block.specs.Block.{all_zero, no_block, block_at, with_block}
+use Rattle.block.specs.Block.{all_zero, no_block, block_at, bytes_at, with_block}
+use Rattle.std.specs.List.{fold}
+use Rattle.std.proofs.Math.Bool.{and-true, and_assoc}
+use Rattle.std.proofs.lemmas.List.{drop_min, take_min}
 use Rattle.block.proofs.Padding.{all-zero}
+
+pub drop-replicate : (n m v : ℕ) → drop n (replicate m v) ≡ replicate (m - n) v
+drop-replicate zero m v = ap (λ (k : ℕ). replicate k v) (sym (sub-zero m))
+drop-replicate (suc n) zero v = ap (λ (k : ℕ). replicate k v) (sym (zero-sub (suc n)))
+drop-replicate (suc n) (suc m) v = drop-replicate n m v ∙ ap (λ (k : ℕ). replicate k v) (sym (suc-sub-suc m n))
 
 -- a turn that copies element j of s to place at + j
 pub paste_more : (d : List ℕ) (at : ℕ) (s : List ℕ) (j : ℕ) {o : List ℕ} → o ≡ paste d at s j → at + j < length d → j < length s
@@ -23,27 +31,10 @@ pub paste_more : (d : List ℕ) (at : ℕ) (s : List ℕ) (j : ℕ) {o : List �
 paste_more d at s j e hd hs =
     ap (λ (l : List ℕ). set l (at + j) (get_or s j 0)) e ∙ paste-suc d at s j 0 hd hs ∙ ap (paste d at s) (sym (add-one j))
 
--- the first m of s, copied to the front of d
-pub copied_front : (s d : List ℕ) (m : ℕ) → m ≤ length s
-    → take (length (take m s)) (take m s) ++ drop (length (take m s)) d ≡ take m s ++ drop m d
-copied_front s d m h = ap₂ ◌++◌ (take-length (take m s)) (ap (λ (k : ℕ). drop k d) (length-take-le m s h))
-
-pub drop-replicate : (n m v : ℕ) → drop n (replicate m v) ≡ replicate (m - n) v
-drop-replicate zero m v = ap (λ (k : ℕ). replicate k v) (sym (sub-zero m))
-drop-replicate (suc n) zero v = ap (λ (k : ℕ). replicate k v) (sym (zero-sub (suc n)))
-drop-replicate (suc n) (suc m) v = drop-replicate n m v ∙ ap (λ (k : ℕ). replicate k v) (sym (suc-sub-suc m n))
-
--- a walk over the bytes from j on
-pub zero_walk : (l : List ℕ) (j : ℕ) {x : ℕ} → j < length l → get_or l j 0 ≡ x → all_zero (drop j l) ≡ eqb x 0 && all_zero (drop (j + 1) l)
-zero_walk l j h e = ap all_zero (drop-cons l j 0 h) ∙ ap₂ (λ (y n : ℕ). eqb y 0 && all_zero (drop n l)) e (sym (add-one j))
-
-pub and-more : (a b c : Bool) → a && (b && c) ≡ (a && b) && c
-and-more true b c = refl
-and-more false b c = refl
-
-pub and-all : (a : Bool) → a && true ≡ a
-and-all true = refl
-and-all false = refl
+-- the fold over the bytes
+pub fold_zero : (b : Bool) (l : List ℕ) → fold (λ (all : Bool) (x : ℕ). all && eqb x 0) b l ≡ b && all_zero l
+fold_zero b [] = sym (and-true b)
+fold_zero b (x ∷ l) = fold_zero (b && eqb x 0) l ∙ and_assoc b (eqb x 0) (all_zero l)
 
 pub zero-drop : (n m : ℕ) → all_zero (drop n (replicate m 0)) ≡ true
 zero-drop n m = ap all_zero (drop-replicate n m 0) ∙ all-zero (m - n)
@@ -101,19 +92,21 @@ block-length content k e = either (ltb k 32)
 pub block-get : (content : List ℕ) (k j : ℕ) → k < 32 → j < 64 → get_or (block_at content k) j 0 ≡ get_or content (k * 64 + j) 0
 block-get content k j l h = rw (block_in content k l) (get_or-take 64 (drop (k * 64) content) j 0 h ∙ get_or-drop (k * 64) content j 0)
 
--- the block of a content of any length
-pub block_size : (content : List ℕ) (k : ℕ) → k < 32 → length (block_at content k) ≡ min 64 (length content - k * 64)
-block_size content k l = rw (block_in content k l) (simp (length-take, length-drop))
+-- the bytes that a content has of a block, and those of a slice of it
+pub bytes_in : (content : List ℕ) (k : ℕ) → k < 32 → bytes_at content k ≡ take 64 (drop (k * 64) content)
+bytes_in content k h = rw (lt-ltb k 32 h) (block_in content k h)
 
--- what is left of a block beyond n, where no more than 64 is passed
-pub drop-most : (b : List ℕ) (n : ℕ) → length b ≤ 64 → drop (min n 64) b ≡ drop n b
-drop-most b n h = either (ltb n 64)
-    (λ e. let l : n < 64 = ltb-true n 64 e in let m : min n 64 ≡ n = omega arith in rw m)
-    (λ e. let l : 64 ≤ n = ltb-false n 64 e in let m : min n 64 ≡ 64 = omega arith in rw m (drop_of_length-le b {i = 64} (omega arith) ∙ sym (drop_of_length-le b {i = n} (omega arith))))
+pub cut : (l : List ℕ) (at lo hi : ℕ) → lo ≡ min at (length l) → hi ≡ min (lo + 64) (length l) → take (hi - lo) (drop lo l) ≡ take 64 (drop at l)
+cut l at lo hi e f =
+    let d = drop at l in let n : hi - lo ≡ min 64 (length d) = simp length-drop (omega arith) in
+    rw (n, e, drop_min at l) (take_min 64 d)
 
--- beyond 64 a block has nothing
-pub block_end : (content : List ℕ) (k n : ℕ) → length content ≡ 2048 → 64 ≤ n → drop n (block_at content k) ≡ []
-block_end content k n e h = drop_of_length-le (block_at content k) {i = n} (omega (arith, block-length content k e))
+-- where a content has no byte of a block, the block has a zero
+pub zero_at : (content : List ℕ) (k n : ℕ) → all_zero (drop n (bytes_at content k)) ≡ all_zero (drop n (block_at content k))
+unfolding block_at no_block
+zero_at content k n = either (ltb k 32)
+    (λ e. rw e)
+    (λ e. rw (e, drop_of_length-le {A = ℕ} [] {i = n} (omega arith)) (sym (zero-drop n 64)))
 
 -- the block of the slot that was replaced, and of another
 module _ (c b : List ℕ) (k : ℕ) (hk : k < 32) (hc : length c ≡ 2048) (hb : length b ≡ 64) where

@@ -3,19 +3,14 @@
 use mathlib.Core.Path.{◌≡◌, refl, sym, ap, ap₂, ◌∙◌}
 use mathlib.Core.Bool.{true}
 use mathlib.Core.List.{List, [], ◌∷◌, ◌++◌, append-nil}
-use Prim.Native.Nat.{ℕ, zero, suc, ◌-◌, ◌≤◌, ◌<◌, min}
+use Prim.Native.Nat.{ℕ, zero, suc, ◌-◌, ◌≤◌}
 use native.Mathlib.Omega.{arith}
-use lib.Dec.{eqb, leb}
+use lib.Dec.{eqb, ltb}
 use lib.ListN.{length, take, drop, replicate, length-take, length-drop, length-replicate, length-append, take-append-drop}
-use lib.Seq.{take_all, take-length, length-take-le, take-append_seam, drop-append_seam}
-use borrow.Author.Tests.{eqb-true, leb-true, leb-false}
+use lib.Seq.{take_all, length-take-le, take-append_seam, drop-append_seam}
+use borrow.Author.Tests.{eqb-true}
 use Rattle.rules.proofs.Facts.{and_left, and_right, either}
-use Rattle.block.specs.Block.{all_zero, no_block, padded}
-
-pub take_min : (bs : List ℕ) → take (min (length bs) 64) bs ≡ take 64 bs
-take_min bs = either (leb (length bs) 64)
-    (λ e. let h : length bs ≤ 64 = leb-true _ _ e in let m : min (length bs) 64 ≡ length bs = omega arith in rw m (take-length bs ∙ sym (take_all 64 bs h)))
-    (λ e. let h : 64 < length bs = leb-false _ _ e in let m : min (length bs) 64 ≡ 64 = omega arith in rw m)
+use Rattle.block.specs.Block.{all_zero, no_block, padded, block_at, bytes_at}
 
 zeros : (l : List ℕ) → all_zero l ≡ true → l ≡ replicate (length l) 0
 zeros [] e = refl
@@ -41,21 +36,22 @@ pub padded-length : (c : List ℕ) → length (padded c) ≡ 64
 unfolding padded
 padded-length c = simp (length-append, length-take, length-replicate) (omega arith)
 
--- only the first 64 bytes count, and 64 bytes are their own block
-pub padded-cut : (c : List ℕ) → padded (take 64 c) ≡ padded c
-unfolding padded
-padded-cut c =
-    let t : take 64 (take 64 c) ≡ take 64 c = take_all 64 (take 64 c) (simp length-take (omega arith)) in
-    let l : 64 - length (take 64 c) ≡ 64 - length c = simp length-take (omega arith) in
-    rw (t, l)
-
 pub padded_full : (b : List ℕ) → length b ≡ 64 → padded b ≡ b
 unfolding padded
 padded_full b h = rw (h, take_all 64 b (omega arith)) (append-nil b)
 
+no_block-length : length no_block ≡ 64
+unfolding no_block
+no_block-length = refl
+
 pub padded-none : padded [] ≡ no_block
 unfolding padded no_block
 padded-none = refl
+
+-- a block's bytes, padded, are the block
+pub padded_at : (content : List ℕ) (k : ℕ) → padded (bytes_at content k) ≡ padded (block_at content k)
+unfolding block_at
+padded_at content k = either (ltb k 32) (λ e. rw e) (λ e. rw e (padded-none ∙ sym (padded_full no_block no_block-length)))
 
 -- a content of at most 64 bytes is the front of its block, and zeros follow
 module _ (c : List ℕ) (h : length c ≤ 64) where

@@ -1,11 +1,11 @@
 -- The content area: 2,048 bytes, a block of 64 for each slot.
 -- Assumes nothing.
-use Rattle.std.specs.Prelude.{Bool, true, cond, ◌&&◌, List, [], ◌∷◌, ◌++◌, ℕ, ◌*◌, ◌-◌, min, ltb, eqb, length, take, drop, replicate}
+use Rattle.std.specs.Prelude.{Bool, cond, List, [], ◌++◌, ℕ, ◌*◌, ◌-◌, min, ltb, eqb, length, take, drop, replicate}
+use Rattle.std.specs.List.{list_all}
 use Rattle.std.proofs.Math.Seq.{paste}
 
 abbrev pub all_zero : List ℕ → Bool
-all_zero [] = true
-all_zero (x ∷ xs) = eqb x 0 && all_zero xs
+all_zero bs = list_all (λ x. eqb x 0) bs
 
 unfoldable pub no_block : List ℕ
 no_block = replicate 64 0
@@ -17,6 +17,10 @@ padded bs = take 64 bs ++ replicate (64 - length bs) 0
 -- the block of a slot; a slot above 31 has zeros
 unfoldable pub block_at : List ℕ → ℕ → List ℕ
 block_at content k = cond (ltb k 32) (take 64 (drop (k * 64) content)) no_block
+
+-- the bytes that the content has of a slot's block; a slot above 31 has none
+abbrev pub bytes_at : List ℕ → ℕ → List ℕ
+bytes_at content k = cond (ltb k 32) (block_at content k) []
 
 -- the content with another block in a slot; a slot above 31 takes none
 unfoldable pub with_block : List ℕ → ℕ → List ℕ → List ℕ

@@ -1,14 +1,8 @@
 // The content area: a block of 64 bytes for each of the 32 slots.
 #![tactic(auto)]
 
-ghost use Rattle.std.specs.Prelude.{◌≡◌, min, drop};
-ghost use Rattle.block.specs.Block.{all_zero, no_block, padded, block_at, filled_front};
-
-pub fn at_most(n: usize, most: usize) -> usize
-    ensures { result ≡ min n most }
-{
-    if n < most { n } else { most }
-}
+ghost use Rattle.std.specs.Prelude.{◌≡◌, drop};
+ghost use Rattle.block.specs.Block.{all_zero, no_block, padded, block_at, bytes_at, filled_front};
 
 pub fn empty() -> [u8; 64]
     ensures { result ≡ no_block }
@@ -21,47 +15,45 @@ pub fn pad(bs: &[u8]) -> [u8; 64]
     ensures { result ≡ padded bs.now }
 {
     let mut out = empty();
-    let n = at_most(bs.len(), 64);
-    copying::copy(&bs[..n], &mut out);
+    copying::copy(bs, &mut out);
     out
+}
+
+// The bytes of a slot in a content area: none for a slot above 31, and fewer than 64 where the area ends before them.
+fn bytes_of(content: &[u8], slot: u8) -> &[u8]
+    ensures { result.now ≡ bytes_at content.now slot }
+{
+    let end = content.len();
+    let from = (slot as usize * 64).min(end);
+    if slot < 32 {
+        &content[from..(from + 64).min(end)]
+    } else {
+        &content[..0]
+    }
 }
 
 // The block of a slot of a content area; a slot above 31 has zeros, and so has what an area of less than 2,048 bytes lacks.
 pub fn read(content: &[u8], slot: u8) -> [u8; 64]
     ensures { result ≡ padded (block_at content.now slot) }
 {
-    let base = (slot as usize) * 64;
-    if 2048 <= base {
-        return empty();
-    }
-    if content.len() <= base {
-        return empty();
-    }
-    pad(&content[base..])
+    pad(bytes_of(content, slot))
 }
 
-// Whether the content bytes of a slot beyond a length are zero. The loop leaves at no byte, so that the compiler can test
-// many of them at once.
+// Whether the content bytes of a slot beyond a length are zero. The fold leaves at no byte, as `all` would, so that the compiler
+// can test many of them at once.
 pub fn zero_beyond(content: &[u8], slot: u8, n: usize) -> bool
     ensures { result ≡ all_zero (drop n (block_at content.now slot)) }
 {
-    let base = (slot as usize) * 64;
-    let mut all = true;
-    if base < 2048 {
-        let end = at_most(base + 64, content.len());
-        let mut at = base + at_most(n, 64);
-        while at < end {
-            all = all & (content[at] == 0);
-            at += 1;
-        }
-    }
-    all
+    let bytes = bytes_of(content, slot);
+    bytes[n.min(bytes.len())..]
+        .iter()
+        .fold(true, |all, b| all & (*b == 0))
 }
 
 // The first n bytes of a block go to the front of a buffer, as far as there are so many in either.
 pub fn copy_front(block: [u8; 64], n: usize, out: &mut [u8])
     ensures { out.new ≡ filled_front block n out.old }
 {
-    let m = at_most(at_most(n, 64), out.len());
-    copying::copy(&block[..m], out);
+    let m = n.min(64).min(out.len());
+    out[..m].copy_from_slice(&block[..m]);
 }

@@ -6,8 +6,8 @@ use mathlib.Core.Option.{some}
 use Prim.Native.Nat.{ℕ, ◌<◌}
 use lib.Dec.{eqb}
 use borrow.Author.Tests.{eqb-true}
-use Rattle.rules.specs.declared.Outcome.{Outcome}
-use Rattle.rules.specs.declared.Outcome.TheVariants.{Allowed, Refused}
+use Rattle.rules.specs.Numbers.{Outcome}
+use Rattle.std.specs.Prelude.{Ok, Err}
 use Rattle.rules.specs.Table.{Tables, at}
 use Rattle.rules.specs.Calls.{Call, put, show, send, fetch, add_tag, drop_tag, create, release, hand, kind_of, caller_of}
 use Rattle.rules.specs.Refusals.{verdict}
@@ -39,21 +39,21 @@ module _ (T : Tables words) (L : TableLaws T) where
   pub drops_named : DropsNamed T
   drops_named p l t c e = go c (verdict T t c) refl e
     where
-      drop : (i n q : ℕ) → verdict T t (drop_tag i n q) ≡ Allowed → (b : Bool) → eqb n 0 ≡ b
+      drop : (i n q : ℕ) → verdict T t (drop_tag i n q) ≡ Ok tt → (b : Bool) → eqb n 0 ≡ b
           → has_tag (at T t i).sec p && not (has_tag (cond b (without_tag (at T t i).sec q) (at T t i).sec) p) ≡ true → NamedDrop T p t (drop_tag i n q)
       drop i n q a true z h = record { allowed = a; kind = refl; set = eqb-true n 0 z; tag = ap some (dropped_is p q (at T t i).sec l h) }
       drop i n q a false z h = no_set (has_tag (at T t i).sec p) h
 
       go : (c : Call words) (v : Outcome) → verdict T t c ≡ v → drops_tag T p t c ≡ true → NamedDrop T p t c
-      go c (Refused n) a h = no_set (has_tag (at T t (caller_of c)).sec p) (and_right (eqb (kind_of c) 6) _ (rw a at h))
-      go (put i bs) Allowed a h = absurd (false≢true h)
-      go (show i buf) Allowed a h = absurd (false≢true h)
-      go (send i j) Allowed a h = absurd (false≢true h)
-      go (fetch i j) Allowed a h = absurd (false≢true h)
-      go (add_tag i n q) Allowed a h = absurd (false≢true h)
-      go (drop_tag i n q) Allowed a h =
+      go c (Err n) a h = no_set (has_tag (at T t (caller_of c)).sec p) (and_right (eqb (kind_of c) 6) _ (rw a at h))
+      go (put i bs) (Ok _) a h = absurd (false≢true h)
+      go (show i buf) (Ok _) a h = absurd (false≢true h)
+      go (send i j) (Ok _) a h = absurd (false≢true h)
+      go (fetch i j) (Ok _) a h = absurd (false≢true h)
+      go (add_tag i n q) (Ok _) a h = absurd (false≢true h)
+      go (drop_tag i n q) (Ok _) a h =
           let s = written_at T words_order L t (drop_tag i n q) (pass T t (drop_tag i n q) a) in
           drop i n q a (eqb n 0) refl (sym (λ z. has_tag (at T t i).sec p && not (has_tag (s z).sec p)) ∙ h)
-      go (create i j n) Allowed a h = absurd (false≢true h)
-      go (release i j) Allowed a h = absurd (false≢true h)
-      go (hand i j n q) Allowed a h = absurd (false≢true h)
+      go (create i j n) (Ok _) a h = absurd (false≢true h)
+      go (release i j) (Ok _) a h = absurd (false≢true h)
+      go (hand i j n q) (Ok _) a h = absurd (false≢true h)

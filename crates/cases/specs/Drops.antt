@@ -2,7 +2,7 @@
 -- Assumes nothing.
 use Rattle.std.specs.Prelude.{◌≡◌, true, ℕ, ◌<◌}
 use Rattle.std.proofs.Math.Option.{some}
-use Rattle.rules.specs.declared.Outcome.TheVariants.{Allowed}
+use Rattle.std.specs.Prelude.{Ok}
 use Rattle.rules.specs.Table.{Tables}
 use Rattle.rules.specs.Calls.{Call, fields_of, kind_of}
 use Rattle.rules.specs.Refusals.{verdict}
@@ -11,7 +11,7 @@ use Rattle.label.specs.Words.{words}
 
 module _ (T : Tables words) where
   pub record NamedDrop (p : ℕ) (t : T.Table) (c : Call words) : Type 0 where
-    pub allowed : verdict T t c ≡ Allowed
+    pub allowed : verdict T t c ≡ Ok tt
     pub kind : kind_of c ≡ 6
     pub set : (fields_of c).set ≡ 0
     pub tag : (fields_of c).tag ≡ some p

@@ -4,7 +4,7 @@
 use Rattle.std.specs.Prelude.{◌≡◌, true, false, cond, List, [], ◌∷◌, ◌++◌, map, ℕ, eqb, replicate}
 use Rattle.rules.specs.declared.Kind.{Kind}
 use Rattle.rules.specs.declared.Kind.TheVariants.{Item, Program}
-use Rattle.rules.specs.declared.Outcome.TheVariants.{Allowed, Refused}
+use Rattle.std.specs.Prelude.{Ok, Err}
 use Rattle.rules.specs.Table.{Slot, Tables, Plain, plain, free, accepted}
 use Rattle.rules.specs.Calls.{Call, put, show, send, fetch, add_tag, drop_tag, create, release, hand, caller_of}
 use Rattle.rules.specs.Refusals.{step}
@@ -155,7 +155,7 @@ abbrev audited : Plain words → List (Line (Plain words)) → ℕ → List ℕ 
 audited t ls i buf = audit P (final (step P) t (calls_made ls)) i (records P t (calls_made ls)) buf
 
 abbrev refused : ℕ → List ℕ → Audit
-refused n buf = record { outcome = Refused n; part = []; buffer = buf }
+refused n buf = record { outcome = Err n; part = []; buffer = buf }
 
 -- the watering round before a program in slot 3 that bears no tag
 abbrev pub watched_table : Plain words
@@ -164,7 +164,7 @@ watched_table = now 3 (entity Program 0 0 0 0 0 0 []) round_table
 pub record AuditsHold : Type 0 where
   -- by slot 1, which bears the tag: all six records, 96 bytes; two bytes of the buffer stay
   pub all : audited round_table round 1 (replicate 98 0xee) ≡ record {
-    outcome = Allowed;
+    outcome = Ok tt;
     part = hex "0401000700ffff0001000000000000000501ff000000000001000000000000000401000002ffff0001000000000000000201ff0002ffff0001000000000000000301020700ffff0001000000000000000601ff0a000000000100000000000000";
     buffer = hex "0401000700ffff0001000000000000000501ff000000000001000000000000000401000002ffff0001000000000000000201ff0002ffff0001000000000000000301020700ffff0001000000000000000601ff0a000000000100000000000000eeee";
   }
@@ -173,10 +173,10 @@ pub record AuditsHold : Type 0 where
   -- by an item
   pub item : audited round_table round 2 (replicate 98 0xee) ≡ refused 1 (replicate 98 0xee)
   -- by one without the tag: no record, so no room is needed
-  pub without : audited watched_table round 3 [] ≡ record { outcome = Allowed; part = []; buffer = [] }
+  pub without : audited watched_table round 3 [] ≡ record { outcome = Ok tt; part = []; buffer = [] }
   -- of the second round by slot 0, which has dropped its tag: slot 1's add, the item's refused put, its own show, slot 1's release
   pub some : audited second_table second 0 (replicate 64 0xee) ≡ record {
-    outcome = Allowed;
+    outcome = Ok tt;
     part = hex "0501ff00000c010000000000000000000102ff0100ffff0000000000000000000200ff0003ffff0000000000000000000801010000ffff000000000000000000";
     buffer = hex "0501ff00000c010000000000000000000102ff0100ffff0000000000000000000200ff0003ffff0000000000000000000801010000ffff000000000000000000";
   }

@@ -7,8 +7,8 @@ use Prim.Native.Nat.{ℕ, ◌<◌}
 use lib.Dec.{eqb}
 use lib.ListN.{length, get_or, get_or-replicate}
 use borrow.Author.Tests.{eq-eqb}
-use Rattle.rules.specs.declared.Outcome.{Outcome}
-use Rattle.rules.specs.declared.Outcome.TheVariants.{Allowed, Refused}
+use Rattle.rules.specs.Numbers.{Outcome}
+use Rattle.std.specs.Prelude.{Ok, Err}
 use Rattle.rules.specs.Table.{Slot, free, at}
 use Rattle.rules.specs.Calls.{Call, put, show, send, fetch, add_tag, drop_tag, create, release, hand, target}
 use Rattle.rules.specs.Refusals.{on_allowed, verdict, step}
@@ -42,8 +42,8 @@ one_slot_written t c k l ne = go (verdict hub t c) refl
     apart = ap (eqb k) (sym (is_target c)) ∙ ne
 
     go : (v : Outcome) → verdict hub t c ≡ v → OthersKept t (on_allowed v (hub.store t (target c) (writes hub t c)) t) k
-    go (Refused n) e = record { entity = refl; block = refl }
-    go Allowed e =
+    go (Err n) e = record { entity = refl; block = refl }
+    go (Ok _) e =
         let p = pass hub t c e in
         let a = writes hub t c in
         let h = target_in hub t c p in record {

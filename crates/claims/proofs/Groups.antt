@@ -9,8 +9,8 @@ use lib.Dec.{ltb, leb}
 use lib.ListN.{length, get_or, length-take, get_or-eq_default}
 use lib.Seq.{get_or-take}
 use borrow.Author.Tests.{leb-true, le-leb, ltb-true, ltb-false}
-use Rattle.rules.specs.declared.Outcome.{Outcome}
-use Rattle.rules.specs.declared.Outcome.TheVariants.{Allowed, Refused}
+use Rattle.rules.specs.Numbers.{Outcome}
+use Rattle.std.specs.Prelude.{Ok, Err}
 use Rattle.rules.specs.Table.{is_free, held, keeps_each, slot_keeps, accepted}
 use Rattle.rules.specs.Calls.{Call, target}
 use Rattle.rules.specs.Refusals.{on_allowed, verdict, step}
@@ -131,8 +131,8 @@ step_fixed : (t : Table) (c : Call words) → GroupsFixed t (step hub t c)
 step_fixed t c = go (verdict hub t c)
   where
     go : (v : Outcome) → GroupsFixed t (on_allowed v (hub.store t (target c) (writes hub t c)) t)
-    go Allowed = slot-groups t _ _ _
-    go (Refused n) = record { groups = refl; count = refl }
+    go (Ok _) = slot-groups t _ _ _
+    go (Err n) = record { groups = refl; count = refl }
 
 pub no_group_moved : NoGroupMoved
 no_group_moved t [] = record { groups = refl; count = refl }

@@ -1,7 +1,7 @@
 -- Document 01, 'Nine calls': what an allowed call leaves alone in the struct that runs, and what a release leaves.
 -- Assumes nothing.
 use Rattle.std.specs.Prelude.{◌≡◌, true, false, cond, [], ◌∷◌, ℕ, ◌<◌, eqb, length}
-use Rattle.rules.specs.declared.Outcome.TheVariants.{Allowed}
+use Rattle.std.specs.Prelude.{Ok}
 use Rattle.rules.specs.Table.{Slot, at}
 use Rattle.rules.specs.ByNumber.{among}
 use Rattle.rules.specs.Calls.{Call, release, kind_of, caller_of, other_of}
@@ -54,4 +54,4 @@ pub record Released (u : Table) (j : ℕ) : Type 0 where
   pub bytes : (n : ℕ) → n < 64 → byte_in u j n ≡ 0
 
 abbrev pub ReleaseClears : Type 0
-ReleaseClears = (t : Table) (i j : ℕ) → verdict hub t (release i j) ≡ Allowed → Released (step hub t (release i j)) j
+ReleaseClears = (t : Table) (i j : ℕ) → verdict hub t (release i j) ≡ Ok tt → Released (step hub t (release i j)) j

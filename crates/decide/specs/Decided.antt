@@ -1,8 +1,9 @@
 -- Document 01, 'When a call is turned down': the rules' refusals, on what a call sees of the table.
 -- Assumes nothing.
 use Rattle.std.specs.Prelude.{ℕ, Bool, cond, not, List, replicate}
-use Rattle.rules.specs.declared.Outcome.{Outcome}
-use Rattle.rules.specs.declared.Outcome.TheVariants.{Allowed, Refused}
+use Rattle.rules.specs.declared.Refusal.{Refusal}
+use Rattle.rules.specs.Numbers.{Outcome}
+use Rattle.std.specs.Prelude.{Ok, Err}
 use Rattle.rules.specs.Table.{is_program, Slot}
 use Rattle.rules.specs.Calls.{Call}
 use Rattle.rules.specs.Refusals.{Refusals, allow, ◌if◌else◌, first, refusals}
@@ -12,6 +13,7 @@ use Rattle.label.specs.Words.{words}
 use Rattle.entity.specs.declared.Entity.{Entity}
 use Rattle.entity.specs.Entity.{rights_of}
 use Rattle.decide.specs.declared.Seen.{Seen}
+use Rattle.rules.specs.declared.Refusal.TheVariants.{NoProgram, Formless}
 
 -- the slot of an entity, as far as a decision sees it: of its content only the length
 abbrev pub measured : Entity → Slot words
@@ -19,22 +21,19 @@ measured e = record { kind = e.kind; sec = e.sec; int = e.int; rights = rights_o
 
 -- a call's refusals, 99 first, where the groups are gs; of the calls only hand asks about them
 abbrev pub seen_refusals : Seen → List Label → Call words → Refusals
-seen_refusals s gs c = 99 if not s.formed else refusals gs (measured s.caller) (measured s.other) c
+seen_refusals s gs c = Formless if not s.formed else refusals gs (measured s.caller) (measured s.other) c
 
 abbrev pub decided : Seen → List Label → Call words → Outcome
 decided s gs c = first (seen_refusals s gs c)
 
 -- 99 and 1, which all calls and audits have in common
 abbrev pub caller_decided : Seen → Outcome
-caller_decided s = first (99 if not s.formed else 1 if not (is_program s.caller.kind) else allow)
+caller_decided s = first (Formless if not s.formed else NoProgram if not (is_program s.caller.kind) else allow)
 
 -- an audit's refusals
 abbrev pub audit_decided : Seen → Bool → ℕ → ℕ → Outcome
 audit_decided s whole room size = first (audit_refusals s.formed (is_program s.caller.kind) whole room size)
 
--- ---- one refusal after another
-
--- an outcome so far, with one more refusal: the first stands
-abbrev pub or_if : Outcome → Bool → ℕ → Outcome
-or_if Allowed b n = cond b (Refused n) Allowed
-or_if (Refused m) b n = Refused m
+-- turned down by one refusal, where it applies
+abbrev pub refused_if : Bool → Refusal → Outcome
+refused_if b n = cond b (Err n) (Ok tt)

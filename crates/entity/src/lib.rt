@@ -4,13 +4,15 @@
 ghost use Rattle.std.specs.Prelude.{◌≡◌, cond};
 ghost use Rattle.rules.specs.Table.{is_free, is_item, is_program, flow, held, parts_formed};
 ghost use Rattle.rules.specs.Calls.{new_kind, add_right, drop_right, right_at, grant, relabel, created, with_rights};
+ghost use Rattle.label.specs.declared.Label.{Label};
 ghost use Rattle.label.specs.Tags.{with_tag, without_tag};
 ghost use Rattle.entity.specs.Entity.{free_entity, rights_of, bare, entity_as};
 
 use label::Label;
 use rules::Kind;
 
-// What a slot holds but for its content: S, I, the rights to add to and drop from each, and the content's length.
+// What a slot holds but for its content: S, I, the rights to add to and drop from each, and the content's length. The rights
+// have the rules' names: places in an array would say less plainly which is which.
 #[derive(Clone, Copy)]
 pub struct Entity {
     pub kind: Kind,
@@ -23,6 +25,7 @@ pub struct Entity {
     pub len: usize,
 }
 
+// What a free slot holds, named for what it is: a `Default` would say it less plainly.
 pub fn free_entity() -> Entity
     ensures { result ≡ free_entity }
 {
@@ -57,34 +60,19 @@ impl Entity {
     pub fn is_free(self) -> bool
         ensures { result ≡ is_free self.kind }
     {
-        let k = self.kind;
-        match k {
-            Kind::Free => true,
-            Kind::Item => false,
-            Kind::Program => false,
-        }
+        self.kind == Kind::Free
     }
 
     pub fn is_item(self) -> bool
         ensures { result ≡ is_item self.kind }
     {
-        let k = self.kind;
-        match k {
-            Kind::Free => false,
-            Kind::Item => true,
-            Kind::Program => false,
-        }
+        self.kind == Kind::Item
     }
 
     pub fn is_program(self) -> bool
         ensures { result ≡ is_program self.kind }
     {
-        let k = self.kind;
-        match k {
-            Kind::Free => false,
-            Kind::Item => false,
-            Kind::Program => true,
-        }
+        self.kind == Kind::Program
     }
 
     fn no_rights(self) -> bool
@@ -98,8 +86,7 @@ impl Entity {
     pub fn is_formed(self) -> bool
         ensures { result ≡ parts_formed (bare self) self.len }
     {
-        let k = self.kind;
-        match k {
+        match self.kind {
             Kind::Free => (self.len <= 64)
                 & ((label::is_empty(self.sec) & label::is_empty(self.int))
                     & (self.no_rights() & (self.len == 0))),
@@ -115,7 +102,8 @@ impl Entity {
         label::subset(self.sec, other.sec) & label::subset(other.int, self.int)
     }
 
-    // The right to add to the set that a set field names, and to drop from it.
+    // The right to add to the set that a set field names, and to drop from it. Each is one choice of two fields; one function of
+    // both would be no plainer.
     pub fn add_right(self, set: u8) -> Label
         ensures { result ≡ add_right set (rights_of self) }
     {
@@ -140,58 +128,64 @@ impl Entity {
     }
 
     // The entity with one right more.
-    pub fn with_right(mut self, set: u8, tag: u8) -> Entity
+    pub fn with_right(self, set: u8, tag: u8) -> Entity
         ensures { result ≡ entity_as (with_rights (bare self) (grant set tag (rights_of self))) self.len }
     {
-        self.sa = label::choose(set == 0, label::with_tag(self.sa, tag), self.sa);
-        self.sd = label::choose(set == 1, label::with_tag(self.sd, tag), self.sd);
-        self.ia = label::choose(set == 2, label::with_tag(self.ia, tag), self.ia);
-        self.id = label::choose(set == 3, label::with_tag(self.id, tag), self.id);
-        self
+        let more = |n: u8, right: Label| label::choose(
+            set == n,
+            label::with_tag(right, tag),
+            right,
+        );
+        Entity {
+            sa: more(0, self.sa),
+            sd: more(1, self.sd),
+            ia: more(2, self.ia),
+            id: more(3, self.id),
+            ..self
+        }
+    }
+
+    // The entity with another set in place of the one that a set field names: of that one, what is made of it.
+    fn relabel<F: Fn(Label) -> Label>(self, set: u8, change: F) -> Entity
+        requires { F.IsAlwaysCallable change }
+        ensures { (f : Label → Label) → ((l r : Label) → F.post change l r → r ≡ f l) → result ≡ entity_as (relabel set f (bare self)) self.len }
+    {
+        Entity {
+            sec: label::choose(set == 0, change(self.sec), self.sec),
+            int: label::choose(set == 0, self.int, change(self.int)),
+            ..self
+        }
     }
 
     // The entity with a tag more, or less, in the set that a set field names.
-    pub fn with_tag(mut self, set: u8, tag: u8) -> Entity
+    pub fn with_tag(self, set: u8, tag: u8) -> Entity
         ensures { result ≡ entity_as (relabel set (λ l. with_tag l tag) (bare self)) self.len }
     {
-        self.sec = label::choose(set == 0, label::with_tag(self.sec, tag), self.sec);
-        self.int = label::choose(set == 0, self.int, label::with_tag(self.int, tag));
-        self
+        self.relabel(set, |l| label::with_tag(l, tag))
     }
 
-    pub fn without_tag(mut self, set: u8, tag: u8) -> Entity
+    pub fn without_tag(self, set: u8, tag: u8) -> Entity
         ensures { result ≡ entity_as (relabel set (λ l. without_tag l tag) (bare self)) self.len }
     {
-        self.sec = label::choose(set == 0, label::without_tag(self.sec, tag), self.sec);
-        self.int = label::choose(set == 0, self.int, label::without_tag(self.int, tag));
-        self
+        self.relabel(set, |l| label::without_tag(l, tag))
     }
 
     // A new entity of the kind that a set field names, with the S and I of self.
     pub fn create(self, set: u8) -> Entity
         ensures { result ≡ entity_as (created set (bare self)) 0 }
     {
-        let none = label::empty();
-        let s = self.sec;
-        let i = self.int;
-        let k = new_kind(set);
         Entity {
-            kind: k,
-            sec: s,
-            int: i,
-            sa: none,
-            sd: none,
-            ia: none,
-            id: none,
-            len: 0,
+            kind: new_kind(set),
+            sec: self.sec,
+            int: self.int,
+            ..free_entity()
         }
     }
 
-    pub fn with_len(mut self, n: usize) -> Entity
-        ensures { result ≡ entity_as (bare self) n }
+    pub fn with_len(self, len: usize) -> Entity
+        ensures { result ≡ entity_as (bare self) len }
     {
-        self.len = n;
-        self
+        Entity { len, ..self }
     }
 
     // All that the entity wears or has a right over.

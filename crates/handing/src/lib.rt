@@ -3,21 +3,18 @@
 
 ghost use Rattle.std.specs.Prelude.{◌≡◌, take};
 
-use rules::Outcome;
+use rules::Refusal;
 
 // The filled front part of a lent buffer, and the outcome.
 #[derive(Clone, Copy)]
 pub struct Filled<'a> {
     pub part: &'a [u8],
-    pub outcome: Outcome,
+    pub outcome: Result<(), Refusal>,
 }
 
-// The first n bytes, where they stand; all of them where there are fewer.
-pub fn front<'a>(all: &'a [u8], n: usize) -> &'a [u8]
+// The first n of some items, where they stand; all of them where there are fewer.
+pub fn front<'a, T>(all: &'a [T], n: usize) -> &'a [T]
     ensures { (result.now ≡ take n all.now) × (result.ref_ptr ≡ all.entry.ref_ptr) }
 {
-    if n <= all.len() {
-        return &all[..n];
-    }
-    all
+    &all[..n.min(all.len())]
 }

@@ -2,13 +2,14 @@
 -- Assumes nothing.
 use mathlib.Core.Path.{◌≡◌, refl, sym, ap, ◌∙◌}
 use mathlib.Core.List.{List, [], ◌∷◌}
-use Prim.Native.Nat.{ℕ, zero, suc, ◌+◌, ◌-◌, ◌*◌, ◌/◌, ◌%◌, ◌^◌, ◌≤◌, ◌<◌}
+use Prim.Native.Nat.{ℕ, zero, suc, ◌*◌, ◌/◌, ◌%◌, ◌^◌, ◌<◌}
 use native.Mathlib.Nat.{mod-one, zero-lt-suc, one-le-pow, pow-suc}
 use native.Mathlib.Omega.{arith}
 use lib.Arith.{mod-mul}
-use lib.Pow.{pow-add}
-use lib.ListN.{length, get_or, drop}
-use lib.Seq.{drop-cons}
+use lib.Pow.{pow-add, shr-shr}
+use lib.ListN.{length}
+use mir.Syntax.{w64}
+use Rattle.std.specs.Int.{to_le_bytes, from_le_bytes}
 use Rattle.label.specs.Tags.{tag_of, bytes_in, from_bytes_in}
 use Rattle.label.proofs.Laws.{mod-tag}
 
@@ -32,22 +33,19 @@ byte_tags (suc k) =
 pub round-tag : (k x n : ℕ) → n < 8 * k → tag_of (from_bytes_in (bytes_in k x)) n ≡ tag_of x n
 round-tag k x n l = ap (λ (y : ℕ). tag_of y n) (from_bytes_lem k x ∙ ap (λ (m : ℕ). x % m) (byte_tags k)) ∙ mod-tag (8 * k) x n l
 
--- ---- for a loop from the last byte to the first
-pub from_none : (bs : List ℕ) → from_bytes_in (drop (length bs) bs) ≡ 0
-unfolding from_bytes_in
-from_none [] = refl
-from_none (b ∷ bs) = from_none bs
+-- ---- the eight bytes of std's 64-bit numbers
+pub bytes_are : (x : ℕ) → to_le_bytes w64 x ≡ bytes_in 8 x
+unfolding bytes_in
+bytes_are x =
+    let q1 : x / 256 / 256 ≡ x / 65536 = shr-shr x 8 8 in
+    let q2 : x / 65536 / 256 ≡ x / 16777216 = shr-shr x 16 8 in
+    let q3 : x / 16777216 / 256 ≡ x / 4294967296 = shr-shr x 24 8 in
+    let q4 : x / 4294967296 / 256 ≡ x / 1099511627776 = shr-shr x 32 8 in
+    let q5 : x / 1099511627776 / 256 ≡ x / 281474976710656 = shr-shr x 40 8 in
+    let q6 : x / 281474976710656 / 256 ≡ x / 72057594037927936 = shr-shr x 48 8 in
+    simp (q1, q2, q3, q4, q5, q6)
 
-pub from_more : (bs : List ℕ) (i : ℕ) → zero < i → i ≤ length bs → from_bytes_in (drop (i - 1) bs) ≡ get_or bs (i - 1) 0 + 256 * from_bytes_in (drop i bs)
+pub number_is : (bs : List ℕ) → length bs ≡ 8 → from_le_bytes w64 bs ≡ from_bytes_in bs
 unfolding from_bytes_in
-from_more bs i p l =
-    let e : suc (i - 1) ≡ i = omega arith in
-    ap from_bytes_in (drop-cons bs (i - 1) 0 (omega arith)) ∙ ap (λ (j : ℕ). get_or bs (i - 1) 0 + 256 * from_bytes_in (drop j bs)) e
-
--- the bytes from i on fit where all do
-pub from_lt : (bs : List ℕ) → ((n : ℕ) → get_or bs n 0 < 256) → (i : ℕ) → from_bytes_in (drop i bs) < 256 ^ length bs
-unfolding from_bytes_in
-from_lt [] h zero = omega arith
-from_lt [] h (suc i) = omega arith
-from_lt (b ∷ bs) h zero = rw (pow-suc 256 (length bs)) (omega (arith, h 0, from_lt bs (λ n. h (suc n)) 0))
-from_lt (b ∷ bs) h (suc i) = rw (pow-suc 256 (length bs)) (omega (arith, from_lt bs (λ n. h (suc n)) i))
+number_is (a ∷ b ∷ c ∷ d ∷ e ∷ f ∷ g ∷ h ∷ []) q = omega arith
+number_is bs q = absurd (omega arith)

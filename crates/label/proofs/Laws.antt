@@ -2,18 +2,21 @@
 -- Assumes nothing.
 use mathlib.Core.Path.{◌≡◌, refl, sym, ap, ap₂, ◌∙◌}
 use mathlib.Core.Logic.{⊎_elim}
-use mathlib.Core.Bool.{Bool, true, false, cond}
+use mathlib.Core.Bool.{Bool, true, false, cond, not}
 use Prim.Native.Nat.{ℕ, zero, suc, ◌+◌, ◌-◌, ◌*◌, ◌/◌, ◌%◌, ◌^◌, ◌≤◌, ◌<◌, min, max}
-use native.Mathlib.Nat.{mod-lt, mod-one, mod-eq_of_lt, zero-lt-suc, pow-suc, mul_comm, le-suc, le_refl, lt_of_lt_of_le, eq-or-lt_of_le, le_of_suc-le-suc, not-suc-le-zero, min-eq_left, mul_assoc, mul-add-div_right, div-eq_of_lt, zero-div, one-mul, mul-div_cancel}
-use native.Mathlib.Numerals.{one-add}
+use native.Mathlib.Nat.{mod-lt, mod-one, mod-eq_of_lt, zero-lt-suc, pow-suc, mul_comm, le-suc, le_refl, lt_of_lt_of_le, eq-or-lt_of_le, le_of_suc-le-suc, not-suc-le-zero, min-eq_left, mul_assoc, mul-add-div_right, div-eq_of_lt}
 use native.Mathlib.Omega.{arith}
 use lib.Arith.{mod-mul}
-use lib.Pow.{pow_pos, pow-lt, pow_mono, pow-add, shr-shr, shl_exact}
-use lib.Bits.{bit_and, bit_or, bit_xor, and_step, or_step, xor_step, and_shr, or_shr, xor_shr, and_lt, or_lt, xor_lt, differ}
+use lib.Pow.{pow_pos, pow-lt, pow-add}
+use lib.Bits.{bit_and, bit_or, and_zero_r, and_lt, or_lt}
 use lib.Count.{ones, ones_cat}
-use lib.Dec.{eqb, eqb-zero-suc, eqb-suc-zero, eqb-suc-suc}
-use borrow.Author.Tests.{leb-true, le-leb, eq-eqb, ne_eqb, eqb-true}
-use Rattle.rules.proofs.Facts.{iff}
+use lib.Dec.{eqb, ltb}
+use mir.Syntax.{Width}
+use mir.Val.{bits}
+use borrow.Author.Tests.{leb-true, le-leb, lt-ltb, ltb-true, ltb-false, eq-eqb, ne_eqb, eqb-true, eqb-false}
+use Rattle.std.specs.Int.{bit_at, bit_not}
+use Rattle.std.proofs.lemmas.Nat.Bits.{bit_at-lt, bit_at_and, bit_at_or, bit_at_not, bit_at-zero, bit_at-pow_same, bit_at-pow_other, bit_at_above, and_pow, same_from_bits_below}
+use Rattle.rules.proofs.Facts.{iff, either}
 use Rattle.rules.proofs.Bounded.{all-at, all_of}
 use Rattle.label.specs.Tags.{tag_of, set_of, sum_of, subset_in, equal_in, union_in, with_in, without_in, common_in}
 
@@ -22,7 +25,7 @@ two_pos = zero-lt-suc 1
 
 pub tag-lt : (x n : ℕ) → tag_of x n < 2
 unfolding tag_of
-tag-lt x n = mod-lt (x / 2 ^ n) two_pos
+tag-lt x n = bit_at-lt x n
 
 -- ---- sets and sums by their tags
 pub set_ext : (k : ℕ) (f g : ℕ → ℕ) → ((n : ℕ) → n < k → f n ≡ g n) → set_of k f ≡ set_of k g
@@ -55,10 +58,6 @@ set-mod (suc k) x = ap (λ (m : ℕ). tag_of x k * 2 ^ k + m) (set-mod k x) ∙ 
 -- a number below 2 ^ k is the set of its tags
 pub set_tags : (k x : ℕ) → x < 2 ^ k → set_of k (tag_of x) ≡ x
 set_tags k x h = set-mod k x ∙ mod-eq_of_lt h
-
--- two numbers of k digits are equal where their tags are
-pub tags_ext : (k x y : ℕ) → x < 2 ^ k → y < 2 ^ k → ((n : ℕ) → n < k → tag_of x n ≡ tag_of y n) → x ≡ y
-tags_ext k x y hx hy h = sym (set_tags k x hx) ∙ set_ext k (tag_of x) (tag_of y) h ∙ set_tags k y hy
 
 set-lt : (k : ℕ) (f : ℕ → ℕ) → ((n : ℕ) → f n < 2) → set_of k f < 2 ^ k
 unfolding set_of
@@ -111,45 +110,28 @@ pub ones_tags : (k x : ℕ) → x < 2 ^ k → ones x ≡ sum_of k (tag_of x)
 ones_tags k x h = ap ones (sym (mod-eq_of_lt h)) ∙ ones_mod k x
 
 -- ---- the operations, tag by tag
-low_bit : (r d : ℕ) → d < 2 → (r * 2 + d) % 2 ≡ d
-low_bit r d h = omega arith
-
 pub and-tag : (a b n : ℕ) → tag_of (bit_and a b) n ≡ min (tag_of a n) (tag_of b n)
 unfolding tag_of
-and-tag a b n =
-    ap (λ (x : ℕ). x % 2) (and_shr a b n ∙ and_step (a / 2 ^ n) (b / 2 ^ n)) ∙ low_bit _ _ (omega (arith, tag-lt a n))
+and-tag a b n = bit_at_and a b n
 
 pub or-tag : (a b n : ℕ) → tag_of (bit_or a b) n ≡ max (tag_of a n) (tag_of b n)
 unfolding tag_of
-or-tag a b n =
-    ap (λ (x : ℕ). x % 2) (or_shr a b n ∙ or_step (a / 2 ^ n) (b / 2 ^ n)) ∙ low_bit _ _ (omega (arith, tag-lt a n, tag-lt b n))
+or-tag a b n = bit_at_or a b n
 
-pub xor-tag : (a b n : ℕ) → tag_of (bit_xor a b) n ≡ differ (tag_of a n) (tag_of b n)
-unfolding tag_of
-xor-tag a b n =
-    ap (λ (x : ℕ). x % 2) (xor_shr a b n ∙ xor_step (a / 2 ^ n) (b / 2 ^ n)) ∙ low_bit _ _ (differ_lt _ _ (tag-lt a n) (tag-lt b n))
-  where
-    differ_lt : (x y : ℕ) → x < 2 → y < 2 → differ x y < 2
-    differ_lt zero y hx hy = hy
-    differ_lt (suc zero) zero hx hy = hx
-    differ_lt (suc zero) (suc zero) hx hy = two_pos
-    differ_lt (suc zero) (suc (suc y)) hx hy = absurd (not-suc-le-zero (le_of_suc-le-suc (le_of_suc-le-suc hy)))
-    differ_lt (suc (suc x)) y hx hy = absurd (not-suc-le-zero (le_of_suc-le-suc (le_of_suc-le-suc hx)))
+-- a number with a tag alone, and with none for a tag that is none of the k
+abbrev pub alone : ℕ → ℕ → ℕ
+alone k t = cond (ltb t k) (2 ^ t) 0
 
--- a single tag
-tag_half : (x n : ℕ) → tag_of x (suc n) ≡ tag_of (x / 2) n
-unfolding tag_of
-tag_half x n = ap (λ (y : ℕ). y % 2) (ap (λ (m : ℕ). x / 2 ^ m) (sym (one-add n)) ∙ sym (shr-shr x 1 n))
+alone-lt : (k t : ℕ) → alone k t < 2 ^ k
+alone-lt k t = either (ltb t k) (λ e. rw e (pow-lt (ltb-true t k e))) (λ e. rw e (pow_pos k))
 
-pub pow-tag : (t n : ℕ) → tag_of (2 ^ t) n ≡ cond (eqb n t) 1 0
+alone-tag : (k t n : ℕ) → n < k → tag_of (alone k t) n ≡ cond (eqb n t) 1 0
 unfolding tag_of
-pow-tag zero zero = refl
-pow-tag zero (suc n) = tag_half 1 n ∙ ap (λ (y : ℕ). y % 2) (zero-div (2 ^ n)) ∙ sym (ap (λ (b : Bool). cond b 1 0) (eqb-suc-zero n))
-pow-tag (suc t) zero =
-    ap (λ (y : ℕ). y / 1 % 2) (pow-suc 2 t) ∙ omega arith ∙ sym (ap (λ (b : Bool). cond b 1 0) (eqb-zero-suc t))
-pow-tag (suc t) (suc n) =
-    tag_half (2 ^ suc t) n ∙ ap (λ (y : ℕ). tag_of (y / 2) n) (pow-suc 2 t) ∙ ap (λ (y : ℕ). tag_of y n) (mul-div_cancel (2 ^ t) two_pos)
-    ∙ pow-tag t n ∙ sym (ap (λ (b : Bool). cond b 1 0) (eqb-suc-suc n t))
+alone-tag k t n l =
+    either (eqb n t)
+    (λ e. let q : n ≡ t = eqb-true n t e in let h : ltb t k ≡ true = lt-ltb t k (omega arith) in rw (e, h, q) (bit_at-pow_same t))
+    (λ e. let f : n ≡ t → ⊥ = eqb-false n t e in
+    either (ltb t k) (λ h. rw (e, h) (bit_at-pow_other t n f)) (λ h. rw (e, h) (bit_at-zero n)))
 
 -- ---- the sets of the definitions, at the tags there are
 pub union-tag : (k a b n : ℕ) → n < k → tag_of (union_in k a b) n ≡ max (tag_of a n) (tag_of b n)
@@ -181,27 +163,41 @@ max-cond : (x : ℕ) (b : Bool) → x < 2 → max x (cond b 1 0) ≡ cond b 1 x
 max-cond x true h = omega arith
 max-cond x false h = omega arith
 
-pub with_is : (k a t : ℕ) → a < 2 ^ k → t < k → bit_or a (2 ^ t) ≡ with_in k a t
+pub with_is : (k a t : ℕ) → a < 2 ^ k → bit_or a (alone k t) ≡ with_in k a t
 unfolding with_in
-with_is k a t ha ht =
-    sym (set_tags k (bit_or a (2 ^ t)) (or_lt k a (2 ^ t) ha (pow-lt ht)))
-    ∙ set_ext k _ _ (λ n l. or-tag a (2 ^ t) n ∙ ap (max (tag_of a n)) (pow-tag t n) ∙ max-cond (tag_of a n) (eqb n t) (tag-lt a n))
+with_is k a t h =
+    sym (set_tags k (bit_or a (alone k t)) (or_lt k a (alone k t) h (alone-lt k t)))
+    ∙ set_ext k _ _ (λ n l. or-tag a (alone k t) n ∙ ap (max (tag_of a n)) (alone-tag k t n l) ∙ max-cond (tag_of a n) (eqb n t) (tag-lt a n))
 
-differ_cond : (x : ℕ) (b : Bool) → x < 2 → differ x (min x (cond b 1 0)) ≡ cond b 0 x
-differ_cond zero true h = refl
-differ_cond zero false h = refl
-differ_cond (suc zero) true h = refl
-differ_cond (suc zero) false h = refl
-differ_cond (suc (suc x)) b h = absurd (not-suc-le-zero (le_of_suc-le-suc (le_of_suc-le-suc h)))
+not-tag : (w : Width) (m n : ℕ) → m < 2 ^ bits w → n < bits w → tag_of (bit_not w m) n ≡ 1 - tag_of m n
+unfolding tag_of
+not-tag w m n h l = bit_at_not w m n h l
 
-pub without_is : (k a t : ℕ) → a < 2 ^ k → t < k → bit_xor a (bit_and a (2 ^ t)) ≡ without_in k a t
+less : (x : ℕ) (b : Bool) → x < 2 → min x (1 - cond b 1 0) ≡ cond b 0 x
+less x true h = omega arith
+less x false h = omega arith
+
+pub without_is : (w : Width) (a t : ℕ) → a < 2 ^ bits w → bit_and a (bit_not w (alone (bits w) t)) ≡ without_in (bits w) a t
 unfolding without_in
-without_is k a t ha ht =
-    sym (set_tags k (bit_xor a (bit_and a (2 ^ t))) (xor_lt k a (bit_and a (2 ^ t)) ha (and_lt k a (2 ^ t) ha (pow-lt ht))))
+without_is w a t h =
+    let k = bits w in let m = alone k t in let f : bit_not w m < 2 ^ k = omega (arith, pow_pos k) in
+    sym (set_tags k (bit_and a (bit_not w m)) (and_lt k a (bit_not w m) h f))
     ∙ set_ext k _ _
-    (λ n l. xor-tag a (bit_and a (2 ^ t)) n
-    ∙ ap (differ (tag_of a n)) (and-tag a (2 ^ t) n ∙ ap (min (tag_of a n)) (pow-tag t n))
-    ∙ differ_cond (tag_of a n) (eqb n t) (tag-lt a n))
+    (λ n l. and-tag a (bit_not w m) n
+    ∙ ap (min (tag_of a n)) (not-tag w m n (alone-lt k t) l ∙ ap (λ (x : ℕ). 1 - x) (alone-tag k t n l))
+    ∙ less (tag_of a n) (eqb n t) (tag-lt a n))
+
+shows : (x p : ℕ) → x < 2 → 0 < p → not (eqb (x * p) 0) ≡ eqb x 1
+shows zero p h q = let z : 0 * p ≡ 0 = omega arith in rw z
+shows (suc zero) p h q = let z : 1 * p ≡ p = omega arith in rw (z, ne_eqb p 0 (λ e. omega arith))
+shows (suc (suc x)) p h q = absurd (omega arith)
+
+pub has_is : (k a t : ℕ) → a < 2 ^ k → not (eqb (bit_and a (alone k t)) 0) ≡ eqb (tag_of a t) 1
+unfolding tag_of
+has_is k a t h =
+    either (ltb t k)
+    (λ e. rw (e, and_pow a t) (shows (bit_at a t) (2 ^ t) (bit_at-lt a t) (pow_pos t)))
+    (λ e. rw (e, and_zero_r a, bit_at_above a k t h (ltb-false t k e)))
 
 -- ---- subsets and equal sets
 pub subset_tag : (k a b : ℕ) → subset_in k a b ≡ true → (n : ℕ) → n < k → tag_of a n ≤ tag_of b n
@@ -221,10 +217,11 @@ unfolding equal_in
 equal_of_tags k a b h = all_of k _ (λ n l. eq-eqb _ _ (h n l))
 
 pub subset_is : (k a b : ℕ) → a < 2 ^ k → b < 2 ^ k → eqb (bit_and a b) a ≡ subset_in k a b
+unfolding tag_of
 subset_is k a b ha hb =
     iff _ _
     (λ e. subset_of_tags k a b (λ n l. omega (arith, sym (and-tag a b n) ∙ ap (λ (x : ℕ). tag_of x n) (eqb-true _ _ e))))
-    (λ e. eq-eqb _ _ (tags_ext k _ _ (and_lt k a b ha hb) ha (λ n l. and-tag a b n ∙ min-eq_left (subset_tag k a b e n l))))
+    (λ e. eq-eqb _ _ (same_from_bits_below k _ _ (and_lt k a b ha hb) ha (λ n l. and-tag a b n ∙ min-eq_left (subset_tag k a b e n l))))
 
 -- sets with the same tags are subsets of the same sets
 pub subset_ext : (k a a' b : ℕ) → ((n : ℕ) → n < k → tag_of a n ≡ tag_of a' n) → subset_in k a b ≡ subset_in k a' b
@@ -233,27 +230,8 @@ subset_ext k a a' b h = iff (subset_in k a b) (subset_in k a' b)
     (λ e. subset_of_tags k a b (λ n l. omega (arith, h n l, subset_tag k a' b e n l)))
 
 pub equal_is : (k a b : ℕ) → a < 2 ^ k → b < 2 ^ k → eqb a b ≡ equal_in k a b
+unfolding tag_of
 equal_is k a b ha hb =
     iff _ _
     (λ e. equal_of_tags k a b (λ n l. ap (λ (x : ℕ). tag_of x n) (eqb-true a b e)))
-    (λ e. eq-eqb a b (tags_ext k a b ha hb (equal-tag k a b e)))
-
--- 1 << t, where nothing is shifted out
-pub bit_is : (k t : ℕ) → t < k → 1 * 2 ^ t % 2 ^ k ≡ 2 ^ t
-bit_is k t h = shl_exact 1 t k (le_refl 2) (omega arith) ∙ one-mul (2 ^ t)
-
--- ---- a tag that is none of the k
-pub tag_out : (k a t : ℕ) → a < 2 ^ k → k ≤ t → tag_of a t ≡ 0
-unfolding tag_of
-tag_out k a t ha h = ap (λ (x : ℕ). x % 2) (div-eq_of_lt (lt_of_lt_of_le ha (pow_mono h)))
-
-cond_out : (k a t v n : ℕ) → k ≤ t → n < k → cond (eqb n t) v (tag_of a n) ≡ tag_of a n
-cond_out k a t v n h l = ap (λ (b : Bool). cond b v (tag_of a n)) (ne_eqb n t (λ e. omega arith))
-
-pub with_out : (k a t : ℕ) → a < 2 ^ k → k ≤ t → a ≡ with_in k a t
-unfolding with_in
-with_out k a t ha h = sym (set_tags k a ha) ∙ sym (set_ext k _ _ (λ n l. cond_out k a t 1 n h l))
-
-pub without_out : (k a t : ℕ) → a < 2 ^ k → k ≤ t → a ≡ without_in k a t
-unfolding without_in
-without_out k a t ha h = sym (set_tags k a ha) ∙ sym (set_ext k _ _ (λ n l. cond_out k a t 0 n h l))
+    (λ e. eq-eqb a b (same_from_bits_below k a b ha hb (equal-tag k a b e)))

@@ -1,14 +1,15 @@
 // A label: a set of tags 0 to 63, tag n at weight 2 to the n.
 #![tactic(auto)]
 
-ghost use Rattle.std.specs.Prelude.{◌≡◌, cond};
+ghost use Rattle.std.specs.Prelude.{◌≡◌, ◌^◌, cond, ltb};
 ghost use Rattle.label.specs.Tags.{empty, has_tag, subset_of, equal_of, is_empty, union_of, with_tag, without_tag, with_digit, common_of, keeps_to, bytes_of, from_bytes};
 
-#[derive(Clone, Copy)]
+#[derive(Clone, Copy, PartialEq, Eq)]
 pub struct Label {
     pub bits: u64,
 }
 
+// No tags. It is named for what it is: a `Default` would say no more, and less plainly.
 pub fn empty() -> Label
     ensures { result ≡ empty }
 {
@@ -22,11 +23,11 @@ pub fn subset(a: Label, b: Label) -> bool
     a.bits & b.bits == a.bits
 }
 
-// Whether the two have the same tags.
+// Whether the two have the same tags: what `==` says, tag by tag.
 pub fn same(a: Label, b: Label) -> bool
     ensures { result ≡ equal_of a b }
 {
-    a.bits == b.bits
+    a == b
 }
 
 pub fn is_empty(l: Label) -> bool
@@ -44,38 +45,33 @@ pub fn union(a: Label, b: Label) -> Label
     }
 }
 
-// A tag above 63 is in no label: has_tag answers false, and with_tag and without_tag give the label as it is.
+// The number with that tag alone, and with none for a tag above 63, which is in no label: has_tag answers false, and with_tag
+// and without_tag give the label as it is.
+fn bit(t: u8) -> u64
+    ensures { result ≡ cond (ltb t 64) (2 ^ t) 0 }
+{
+    if t < 64 { 1 << t } else { 0 }
+}
+
 pub fn has_tag(l: Label, t: u8) -> bool
     ensures { result ≡ has_tag l t }
 {
-    if t < 64 {
-        (l.bits >> (t as u64)) % 2 == 1
-    } else {
-        false
-    }
+    l.bits & bit(t) != 0
 }
 
 pub fn with_tag(l: Label, t: u8) -> Label
     ensures { result ≡ with_tag l t }
 {
-    if t < 64 {
-        Label {
-            bits: l.bits | (1 << (t as u64)),
-        }
-    } else {
-        l
+    Label {
+        bits: l.bits | bit(t),
     }
 }
 
 pub fn without_tag(l: Label, t: u8) -> Label
     ensures { result ≡ without_tag l t }
 {
-    if t < 64 {
-        Label {
-            bits: l.bits ^ (l.bits & (1 << (t as u64))),
-        }
-    } else {
-        l
+    Label {
+        bits: l.bits & !bit(t),
     }
 }
 
@@ -113,35 +109,14 @@ pub fn choose(test: bool, a: Label, b: Label) -> Label
 pub fn to_bytes(l: Label) -> [u8; 8]
     ensures { result ≡ bytes_of l }
 {
-    let x0 = l.bits;
-    let x1 = x0 / 256;
-    let x2 = x1 / 256;
-    let x3 = x2 / 256;
-    let x4 = x3 / 256;
-    let x5 = x4 / 256;
-    let x6 = x5 / 256;
-    let x7 = x6 / 256;
-    [
-        (x0 % 256) as u8,
-        (x1 % 256) as u8,
-        (x2 % 256) as u8,
-        (x3 % 256) as u8,
-        (x4 % 256) as u8,
-        (x5 % 256) as u8,
-        (x6 % 256) as u8,
-        (x7 % 256) as u8,
-    ]
+    l.bits.to_le_bytes()
 }
 
 // The label of eight bytes, tags 0 to 7 in the first.
 pub fn from_bytes(b: [u8; 8]) -> Label
     ensures { result ≡ from_bytes b }
 {
-    let mut bits: u64 = 0;
-    let mut i: usize = 8;
-    while 0 < i {
-        i -= 1;
-        bits = (b[i] as u64) + 256 * bits;
+    Label {
+        bits: u64::from_le_bytes(b),
     }
-    Label { bits: bits }
 }

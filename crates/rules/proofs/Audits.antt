@@ -23,6 +23,7 @@ use Rattle.rules.proofs.ByNumber.{no_program, one_or_99}
 use Rattle.rules.proofs.Refused.{filled-rest}
 use Rattle.rules.proofs.Shows.{records_show}
 use Rattle.rules.proofs.Records.{records_whole, records_shown}
+use Rattle.rules.specs.declared.Refusal.TheVariants.{NoProgram, ListNotWhole, NoRoomForRecords, Formless}
 
 -- a multiple: what the quotient gives back, or what leaves no rest
 multiple : (n m : ℕ) → eqb (n / m * m) n ≡ eqb (n % m) 0
@@ -63,7 +64,7 @@ module _ {A : Labels} (T : Tables A) where
   pub audit-by-number : AuditByNumber T
   audit-by-number t i list buf = record {
     outcome = let k = no_program (at T t i).kind in let m = multiple (length list) (size A) in let s = shown_places (at T t i).sec list in
-        sym (λ z. first (99 if not (T.formed t) else 1 if k z else 12 if not (m z) else 13 if ltb (length buf) (length (s z)) else allow));
+        sym (λ z. first (Formless if not (T.formed t) else NoProgram if k z else ListNotWhole if not (m z) else NoRoomForRecords if ltb (length buf) (length (s z)) else allow));
     part = λ e. rw e (sym (shown_places (at T t i).sec list));
     front = take-append_seam (audit T t i list buf).part (drop (length (audit T t i list buf).part) buf);
     rest = filled-rest (audit T t i list buf).part buf;
@@ -83,8 +84,8 @@ module _ {A : Labels} (O : OrderLaws A) (T : Tables A) where
   pub runs_audited : RunsAudited T
   runs_audited t cs i buf = record {
     outcome = let k = no_program (at T u i).kind in
-        (λ z. first (99 if not (T.formed u) else 1 if not (is_program (at T u i).kind) else 12 if not (eqb (whole z) 0) else 13 if ltb (length buf) (length (shown z)) else allow))
-        ∙ sym (λ z. first (99 if not (T.formed u) else 1 if k z else 13 if ltb (length buf) (length (records_for T (at T u i).sec t cs)) else allow));
+        (λ z. first (Formless if not (T.formed u) else NoProgram if not (is_program (at T u i).kind) else ListNotWhole if not (eqb (whole z) 0) else NoRoomForRecords if ltb (length buf) (length (shown z)) else allow))
+        ∙ sym (λ z. first (Formless if not (T.formed u) else NoProgram if k z else NoRoomForRecords if ltb (length buf) (length (records_for T (at T u i).sec t cs)) else allow));
     part = λ e. rw e shown;
   }
     where

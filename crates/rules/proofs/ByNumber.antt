@@ -11,7 +11,9 @@ use Rattle.rules.specs.Table.{is_free, is_item, is_program, Slot, Tables, at}
 use Rattle.rules.specs.Calls.{Call, put, show, send, fetch, add_tag, drop_tag, create, release, hand, caller_of, other_of}
 use Rattle.rules.specs.Refusals.{Refusals, allow, ◌if◌else◌, first, number_of, refusals, verdict}
 use Rattle.rules.specs.ByNumber.{among, by_number, ListByNumber, FlowIgnoresRights, KindsMove, passing, NumbersListed, NeedlessByNumber, RecordBytes}
+use Rattle.rules.specs.Numbers.{number}
 use Rattle.rules.proofs.Facts.{not-true, and_left, and_right, all_numbers}
+use Rattle.rules.specs.declared.Refusal.TheVariants.{NoProgram, Formless}
 
 pub no_program : (k : Kind) → is_free k || is_item k ≡ not (is_program k)
 no_program Free = refl
@@ -40,7 +42,7 @@ module _ {A : Labels} where
   pub list_by_number : (T : Tables A) → ListByNumber T
   list_by_number T t c = go (T.formed t)
     where
-      go : (f : Bool) → first (99 if not f else by_number (T.groups t) (at T t (caller_of c)) (at T t (other_of c)) c) ≡ first (99 if not f else refusals (T.groups t) (at T t (caller_of c)) (at T t (other_of c)) c)
+      go : (f : Bool) → first (Formless if not f else by_number (T.groups t) (at T t (caller_of c)) (at T t (other_of c)) c) ≡ first (Formless if not f else refusals (T.groups t) (at T t (caller_of c)) (at T t (other_of c)) c)
       go true = same (T.groups t) (at T t (caller_of c)) (at T t (other_of c)) c
       go false = refl
 
@@ -69,8 +71,8 @@ needless n = among (1 ∷ 99 ∷ []) n
 -- none of a cascade's numbers is one of the two
 others : (r : Refusals) → all_numbers (λ n. not (needless n)) r ≡ true → needless (number_of (first r)) ≡ false
 others allow h = refl
-others (n if true else r) h = not-true (needless n) (and_left (not (needless n)) _ h)
-others (n if false else r) h = others r (and_right (not (needless n)) _ h)
+others (n if true else r) h = not-true (needless (number n)) (and_left (not (needless (number n))) _ h)
+others (n if false else r) h = others r (and_right (not (needless (number n))) _ h)
 
 -- the cascade of a call behind its 1
 abbrev behind : Refusals → Refusals
@@ -78,7 +80,7 @@ behind allow = allow
 behind (n if b else r) = r
 
 module _ {A : Labels} where
-  begins : (gs : List A.Group) (a b : Slot A) (c : Call A) → refusals gs a b c ≡ 1 if not (is_program a.kind) else behind (refusals gs a b c)
+  begins : (gs : List A.Group) (a b : Slot A) (c : Call A) → refusals gs a b c ≡ NoProgram if not (is_program a.kind) else behind (refusals gs a b c)
   begins gs a b (put i bs) = refl
   begins gs a b (show i buf) = refl
   begins gs a b (send i j) = refl
@@ -102,7 +104,7 @@ module _ {A : Labels} where
 
   module _ (T : Tables A) where
     pub one_or_99 : (t : T.Table) (c : Call A) → needless (number_of (verdict T t c)) ≡ not (T.formed t && is_program (at T t (caller_of c)).kind)
-    one_or_99 t c = ap (λ (r : Refusals). needless (number_of (first (99 if not (T.formed t) else r)))) (begins gs a b c) ∙ go (T.formed t) (is_program a.kind)
+    one_or_99 t c = ap (λ (r : Refusals). needless (number_of (first (Formless if not (T.formed t) else r)))) (begins gs a b c) ∙ go (T.formed t) (is_program a.kind)
       where
         gs : List A.Group
         gs = T.groups t
@@ -113,7 +115,7 @@ module _ {A : Labels} where
         b : Slot A
         b = at T t (other_of c)
 
-        go : (f k : Bool) → needless (number_of (first (99 if not f else 1 if not k else behind (refusals gs a b c)))) ≡ not (f && k)
+        go : (f k : Bool) → needless (number_of (first (Formless if not f else NoProgram if not k else behind (refusals gs a b c)))) ≡ not (f && k)
         go false k = refl
         go true false = refl
         go true true = others (behind (refusals gs a b c)) (goes_on gs a b c)

@@ -9,8 +9,9 @@ use lib.Seq.{take-append_seam}
 use borrow.Author.Tests.{eqb-true, eq-eqb, ne_eqb}
 use Rattle.rules.specs.declared.Kind.{Kind}
 use Rattle.rules.specs.declared.Kind.TheVariants.{Free, Item, Program}
-use Rattle.rules.specs.declared.Outcome.{Outcome}
-use Rattle.rules.specs.declared.Outcome.TheVariants.{Allowed, Refused}
+use Rattle.rules.specs.Numbers.{Outcome}
+use Rattle.std.specs.Prelude.{Ok, Err}
+use Rattle.rules.specs.declared.Refusal.TheVariants.{NoRight}
 use Rattle.rules.specs.Labels.{Labels}
 use Rattle.rules.specs.Table.{is_free, is_item, is_program, Slot, Tables, at}
 use Rattle.rules.specs.Calls.{Call, put, show, send, fetch, add_tag, drop_tag, create, release, hand, caller_of, other_of, target, moved}
@@ -60,8 +61,8 @@ module _ {A : Labels} (T : Tables A) (t : T.Table)
       either_way m false e = refl
 
       go : (m : ℕ) (v : Outcome) → verdict T t c ≡ v → at T (step T t c) m ≡ at T t m
-      go m (Refused n) e = rw e
-      go m Allowed e = slots c (pass T t c e) m ∙ either_way m (eqb m (target c)) refl
+      go m (Err n) e = rw e
+      go m (Ok _) e = slots c (pass T t c e) m ∙ either_way m (eqb m (target c)) refl
 
   -- what is written is a program
   program : (c : Call A) → (Pass T t c → (writes T t c).kind ≡ Program)
@@ -111,7 +112,7 @@ module _ {A : Labels} (T : Tables A) (t : T.Table) where
       → some_numbered 10 (all_refusals T t c) ≡ not (A.has l p) || false → Asks T t c l p
   asks c l p k s = record {
     has = λ e. not-false (A.has l p) (sym k ∙ (pass T t c e).off 10);
-    lacks = λ e. not-true (A.has l p) (alone (not (A.has l p)) (sym s ∙ returned (all_refusals T t c) 10 e));
+    lacks = λ e. not-true (A.has l p) (alone (not (A.has l p)) (sym s ∙ returned (all_refusals T t c) NoRight e));
   }
 
 pub rights_needed : {A : Labels} → (T : Tables A) → RightsNeeded T

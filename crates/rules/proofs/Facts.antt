@@ -8,8 +8,9 @@ use native.Mathlib.Omega.{arith}
 use lib.Dec.{eqb}
 use borrow.Author.Tests.{eq-eqb}
 use lib.ListN.{length, length-map}
-use Rattle.rules.specs.declared.Outcome.{Outcome}
-use Rattle.rules.specs.declared.Outcome.TheVariants.{Allowed, Refused}
+use Rattle.rules.specs.declared.Refusal.{Refusal}
+use Rattle.rules.specs.Numbers.{Outcome, number}
+use Rattle.std.specs.Prelude.{Ok, Err}
 use Rattle.rules.specs.Refusals.{Refusals, allow, ◌if◌else◌, first}
 
 -- ---- Booleans
@@ -75,13 +76,13 @@ either false f g = g refl
 -- the condition of the refusal numbered n
 abbrev pub condition : ℕ → Refusals → Bool
 condition n allow = false
-condition n (m if b else r) = cond (eqb n m) b (condition n r)
+condition n (m if b else r) = cond (eqb n (number m)) b (condition n r)
 
 -- where a call is allowed, the condition of each number is false
-pub passed : (r : Refusals) → first r ≡ Allowed → (n : ℕ) → condition n r ≡ false
+pub passed : (r : Refusals) → first r ≡ Ok tt → (n : ℕ) → condition n r ≡ false
 passed allow e n = refl
 passed (m if true else r) e n = cc
-passed (m if false else r) e n = go (eqb n m) (passed r e n)
+passed (m if false else r) e n = go (eqb n (number m)) (passed r e n)
   where
     go : (b : Bool) → condition n r ≡ false → cond b false (condition n r) ≡ false
     go true h = refl
@@ -90,28 +91,28 @@ passed (m if false else r) e n = go (eqb n m) (passed r e n)
 -- a test passes for the number of every refusal
 abbrev pub all_numbers : (ℕ → Bool) → Refusals → Bool
 all_numbers f allow = true
-all_numbers f (n if b else r) = f n && all_numbers f r
+all_numbers f (n if b else r) = f (number n) && all_numbers f r
 
-pub number_of_first : (f : ℕ → Bool) (r : Refusals) (n : ℕ) → first r ≡ Refused n → all_numbers f r ≡ true → f n ≡ true
+pub number_of_first : (f : ℕ → Bool) (r : Refusals) (n : Refusal) → first r ≡ Err n → all_numbers f r ≡ true → f (number n) ≡ true
 number_of_first f allow n e h = cc
-number_of_first f (m if true else r) n e h = let q : m ≡ n = cc in rw q at (and_left (f m) _ h)
-number_of_first f (m if false else r) n e h = number_of_first f r n e (and_right (f m) _ h)
+number_of_first f (m if true else r) n e h = let q : m ≡ n = cc in rw q at (and_left (f (number m)) _ h)
+number_of_first f (m if false else r) n e h = number_of_first f r n e (and_right (f (number m)) _ h)
 
-pub refused-not-allowed : (n : ℕ) → Refused n ≡ Allowed → ⊥
-refused-not-allowed n e = let z : ◌≡◌ {A = ℕ} 0 1 = cc in omega arith
+pub refused-not-allowed : (n : Refusal) → ◌≡◌ {A = Outcome} (Err n) (Ok tt) → ⊥
+refused-not-allowed n e = cc
 
 -- some refusal numbered n applies; that of the number which is returned does
 abbrev pub some_numbered : ℕ → Refusals → Bool
 some_numbered n allow = false
-some_numbered n (m if b else r) = (eqb n m && b) || some_numbered n r
+some_numbered n (m if b else r) = (eqb n (number m) && b) || some_numbered n r
 
-pub returned : (r : Refusals) (n : ℕ) → first r ≡ Refused n → some_numbered n r ≡ true
+pub returned : (r : Refusals) (n : Refusal) → first r ≡ Err n → some_numbered (number n) r ≡ true
 returned allow n e = cc
-returned (m if true else r) n e = or_left (eqb n m && true) _ (both (eqb n m) true (eq-eqb n m cc) refl)
-returned (m if false else r) n e = or_right (eqb n m && false) _ (returned r n e)
+returned (m if true else r) n e = or_left (eqb (number n) (number m) && true) _ (both (eqb (number n) (number m)) true (eq-eqb (number n) (number m) cc) refl)
+returned (m if false else r) n e = or_right (eqb (number n) (number m) && false) _ (returned r n e)
 
 -- two cascades with one first refusal are equal if the rest is where that one does not apply
-pub guard : (n : ℕ) (b : Bool) (x y : Outcome) → (b ≡ false → x ≡ y) → cond b (Refused n) x ≡ cond b (Refused n) y
+pub guard : (n : Refusal) (b : Bool) (x y : Outcome) → (b ≡ false → x ≡ y) → cond b (Err n) x ≡ cond b (Err n) y
 guard n true x y h = refl
 guard n false x y h = h refl
 

@@ -11,6 +11,7 @@ use Rattle.rules.specs.Labels.{Labels}
 use Rattle.rules.specs.Table.{is_free, is_program, Rights, Slot, free, flow}
 use Rattle.rules.specs.Calls.{Call, put, show, send, fetch, add_tag, drop_tag, create, release, hand, caller_of, other_of, moves_content}
 use Rattle.rules.specs.Calls.{add_right, drop_right, relabel, right_at, grant, with_content, with_rights, created, target, written, moved}
+use Rattle.rules.specs.declared.Refusal.TheVariants.{NoProgram}
 use Rattle.rules.specs.Refusals.{first, refusals}
 use Rattle.rules.specs.Runs.{Hidden, hides}
 use Rattle.rules.proofs.Facts.{not-false, and_left, and_right, or_left, or_right, contra, condition, guard}
@@ -89,7 +90,7 @@ module _ {A : Labels} (H : Hidden A) where
   module _ (gs : List A.Group) (a b : Slot A) where
     pub low_refusals : (c : Call A) → struck_by H a c ≡ false → first (refusals gs (low H (caller_of c) a) (low H (other_of c) b) c) ≡ first (refusals gs a b c)
     low_refusals (put i bs) h = refl
-    low_refusals (show i buf) h = guard 1 (not (is_program a.kind)) _ _ λ p. rw (seen (show i buf) a refl h p)
+    low_refusals (show i buf) h = guard NoProgram (not (is_program a.kind)) _ _ λ p. rw (seen (show i buf) a refl h p)
     low_refusals (send i j) h = refl
     low_refusals (fetch i j) h = refl
     low_refusals (add_tag i n p) h = refl

@@ -10,8 +10,8 @@ use lib.Dec.{eqb}
 use lib.ListN.{length, get_or, drop, length-append, length-drop}
 use lib.Seq.{get_or-append-add, get_or-drop}
 use borrow.Author.Tests.{ltb-false}
-use Rattle.rules.specs.declared.Outcome.{Outcome}
-use Rattle.rules.specs.declared.Outcome.TheVariants.{Allowed, Refused}
+use Rattle.rules.specs.Numbers.{Outcome}
+use Rattle.std.specs.Prelude.{Ok, Err}
 use Rattle.rules.specs.Labels.{Labels}
 use Rattle.rules.specs.Table.{is_program, Slot, Tables, at}
 use Rattle.rules.specs.Calls.{Call, put, show, send, fetch, add_tag, drop_tag, create, release, hand, caller_of, other_of, moved, is_show, lent}
@@ -68,20 +68,20 @@ module _ {A : Labels} (T : Tables A) where
   -- an allowed show fits: 6 does not apply
   moved-fits : (t : T.Table) (c : Call A) (v : Outcome) → verdict T t c ≡ v
       → length (cond (is_show c) (on_allowed v (moved (at T t (caller_of c)) (at T t (other_of c)) c) []) []) ≤ length (lent c)
-  moved-fits t c (Refused n) e = rw (empty_either (is_show c)) (omega arith)
-  moved-fits t (put i bs) Allowed e = omega arith
-  moved-fits t (show i buf) Allowed e = ltb-false (length buf) (length (at T t i).content) ((pass T t (show i buf) e).off 6)
-  moved-fits t (send i j) Allowed e = omega arith
-  moved-fits t (fetch i j) Allowed e = omega arith
-  moved-fits t (add_tag i n p) Allowed e = omega arith
-  moved-fits t (drop_tag i n p) Allowed e = omega arith
-  moved-fits t (create i j n) Allowed e = omega arith
-  moved-fits t (release i j) Allowed e = omega arith
-  moved-fits t (hand i j n p) Allowed e = omega arith
+  moved-fits t c (Err n) e = rw (empty_either (is_show c)) (omega arith)
+  moved-fits t (put i bs) (Ok _) e = omega arith
+  moved-fits t (show i buf) (Ok _) e = ltb-false (length buf) (length (at T t i).content) ((pass T t (show i buf) e).off 6)
+  moved-fits t (send i j) (Ok _) e = omega arith
+  moved-fits t (fetch i j) (Ok _) e = omega arith
+  moved-fits t (add_tag i n p) (Ok _) e = omega arith
+  moved-fits t (drop_tag i n p) (Ok _) e = omega arith
+  moved-fits t (create i j n) (Ok _) e = omega arith
+  moved-fits t (release i j) (Ok _) e = omega arith
+  moved-fits t (hand i j n p) (Ok _) e = omega arith
 
   audit-fits : (f k w : Bool) (room : ℕ) (shown : List ℕ) (v : Outcome) → first (audit_refusals f k w room (length shown)) ≡ v → length (on_allowed v shown []) ≤ room
-  audit-fits f k w room shown (Refused n) e = omega arith
-  audit-fits f k w room shown Allowed e = ltb-false room (length shown)
+  audit-fits f k w room shown (Err n) e = omega arith
+  audit-fits f k w room shown (Ok _) e = ltb-false room (length shown)
       (passed (audit_refusals f k w room (length shown)) e 13)
 
   pub parts_fit : PartsFit T

@@ -6,8 +6,8 @@ use mathlib.Core.List.{List, [], ◌∷◌, ◌++◌}
 use Prim.Native.Nat.{ℕ}
 use lib.Dec.{eqb}
 use lib.ListN.{length}
-use Rattle.rules.specs.declared.Outcome.{Outcome}
-use Rattle.rules.specs.declared.Outcome.TheVariants.{Allowed, Refused}
+use Rattle.rules.specs.Numbers.{Outcome}
+use Rattle.std.specs.Prelude.{Ok, Err}
 use Rattle.rules.specs.Labels.{Labels}
 use Rattle.rules.specs.Table.{is_program, Slot, Tables, at}
 use Rattle.rules.specs.Calls.{Call, fields_of, caller_of, other_of, target, written, moved, is_show, lent}
@@ -16,6 +16,7 @@ use Rattle.rules.specs.Record.{Answer, filled, record_of, answer}
 use Rattle.rules.specs.Laws.{OrderLaws, TableLaws}
 use Rattle.rules.specs.SameSlots.{HoldSame, AnswersBySlots}
 use Rattle.rules.proofs.Steps.{pass, writes, stored_at, step_formed, step_groups}
+use Rattle.rules.specs.declared.Refusal.TheVariants.{Formless}
 
 -- an answer, by what it depends on: the form, the groups, both slots, and the caller's S after the call
 answer_by : {A : Labels} → Bool → List A.Group → Slot A → Slot A → A.Label → Call A → Answer
@@ -27,7 +28,7 @@ answer_by {A} f gs a b s c = record {
 }
   where
     v : Outcome
-    v = first (99 if not f else refusals gs a b c)
+    v = first (Formless if not f else refusals gs a b c)
 
     bytes : List ℕ
     bytes = on_allowed v (moved a b c) []
@@ -40,15 +41,15 @@ module _ {A : Labels} (O : OrderLaws A) (T U : Tables A) (L : TableLaws T) (M : 
         let a = h.slots (caller_of c) in
         let b = h.slots (other_of c) in
         let g = h.groups in
-        λ z. first (99 if not (f z) else refusals (g z) (a z) (b z) c)
+        λ z. first (Formless if not (f z) else refusals (g z) (a z) (b z) c)
 
     same-slot : (i : ℕ) → at T (step T t c) i ≡ at U (step U u c) i
     same-slot i = go (verdict T t c) refl (sym same-verdict) ∙ ap (λ (v : Outcome). at U (on_allowed v (U.store u (target c) (writes U u c)) u) i) same-verdict
       where
         go : (v : Outcome) → verdict T t c ≡ v → verdict U u c ≡ v
             → at T (on_allowed v (T.store t (target c) (writes T t c)) t) i ≡ at U (on_allowed v (U.store u (target c) (writes U u c)) u) i
-        go (Refused n) e k = h.slots i
-        go Allowed e k =
+        go (Err n) e k = h.slots i
+        go (Ok _) e k =
             let a = h.slots (caller_of c) in
             let b = h.slots (other_of c) in
             let s = h.slots i in

@@ -9,8 +9,8 @@ use lib.ListN.{length}
 use borrow.Author.Tests.{eqb-true}
 use Rattle.rules.specs.declared.Kind.{Kind}
 use Rattle.rules.specs.declared.Kind.TheVariants.{Free, Item, Program}
-use Rattle.rules.specs.declared.Outcome.{Outcome}
-use Rattle.rules.specs.declared.Outcome.TheVariants.{Allowed, Refused}
+use Rattle.rules.specs.Numbers.{Outcome}
+use Rattle.std.specs.Prelude.{Ok, Err}
 use Rattle.rules.specs.Labels.{Labels}
 use Rattle.rules.specs.Table.{is_free, is_item, is_program, Rights, Slot, Tables, rightless, vacant, at}
 use Rattle.rules.specs.Calls.{Call, put, show, send, fetch, add_tag, drop_tag, create, release, hand, right_at, grant, kind_of, caller_of, other_of, written}
@@ -181,17 +181,17 @@ module _ {A : Labels} (p : A.Tag) (G : TagLaws A p) (O : OrderLaws A) (T : Table
       unmoved false x = refl
 
       go : (c : Call A) (v : Outcome) → verdict T t c ≡ v → on_allowed v (takes p (at T t (caller_of c)) c) false ≡ drops_tag T p t c
-      go c (Refused n) e = rw e (unmoved (eqb (kind_of c) 6) (A.has (at T t (caller_of c)).sec p))
-      go (put i bs) Allowed e = refl
-      go (show i buf) Allowed e = refl
-      go (send i j) Allowed e = refl
-      go (fetch i j) Allowed e = refl
-      go (add_tag i n q) Allowed e = refl
-      go (drop_tag i n q) Allowed e = let s = written_at T O L t (drop_tag i n q) (pass T t (drop_tag i n q) e) in
+      go c (Err n) e = rw e (unmoved (eqb (kind_of c) 6) (A.has (at T t (caller_of c)).sec p))
+      go (put i bs) (Ok _) e = refl
+      go (show i buf) (Ok _) e = refl
+      go (send i j) (Ok _) e = refl
+      go (fetch i j) (Ok _) e = refl
+      go (add_tag i n q) (Ok _) e = refl
+      go (drop_tag i n q) (Ok _) e = let s = written_at T O L t (drop_tag i n q) (pass T t (drop_tag i n q) e) in
           sym (λ z. A.has (at T t i).sec p && not (A.has (s z).sec p))
-      go (create i j n) Allowed e = refl
-      go (release i j) Allowed e = refl
-      go (hand i j n q) Allowed e = refl
+      go (create i j n) (Ok _) e = refl
+      go (release i j) (Ok _) e = refl
+      go (hand i j n q) (Ok _) e = refl
 
   -- an auditor is a program, and one who is not hidden lacks the tag
   auditor_lacks : (k : Kind) (b : Bool) → not (is_free k) && b ≡ false → is_program k ≡ true → b ≡ false
@@ -248,8 +248,8 @@ module _ {A : Labels} (p : A.Tag) (G : TagLaws A p) (O : OrderLaws A) (T : Table
       (never-dropped (step T t c) cs (step_formed T O L t c f) (step_safe T O L (undroppable A p) (undroppable_stays p G) t c (λ q. refl) s))
     where
       go : (v : Outcome) → verdict T t c ≡ v → on_allowed v (takes p (at T t (caller_of c)) c) false ≡ false
-      go (Refused n) e = refl
-      go Allowed e = takes_not p G (T.groups t) (at T t (caller_of c)) (at T t (other_of c)) c (s (caller_of c)) (pass T t c e).off
+      go (Err n) e = refl
+      go (Ok _) e = takes_not p G (T.groups t) (at T t (caller_of c)) (at T t (other_of c)) c (s (caller_of c)) (pass T t c e).off
 
   pub secrecy : Secrecy T p
   secrecy t u cs ds s = secrecy_undropped t u cs ds (record {

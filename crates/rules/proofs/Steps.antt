@@ -11,14 +11,15 @@ use lib.ListN.{length}
 use borrow.Author.Tests.{eqb-true, eq-eqb, ne_eqb, ltb-true, ltb-false, le-leb}
 use Rattle.rules.specs.declared.Kind.{Kind}
 use Rattle.rules.specs.declared.Kind.TheVariants.{Free, Item, Program}
-use Rattle.rules.specs.declared.Outcome.{Outcome}
-use Rattle.rules.specs.declared.Outcome.TheVariants.{Allowed, Refused}
+use Rattle.rules.specs.Numbers.{Outcome}
+use Rattle.std.specs.Prelude.{Ok, Err}
 use Rattle.rules.specs.Labels.{Labels}
 use Rattle.rules.specs.Table.{is_free, is_item, is_program, Slot, Tables, no_rights, free, rightless, vacant, slot_formed, at}
 use Rattle.rules.specs.Calls.{Call, put, show, send, fetch, add_tag, drop_tag, create, release, hand, caller_of, other_of, created, target, written}
 use Rattle.rules.specs.Refusals.{Refusals, ◌if◌else◌, first, on_allowed, refusals, verdict, step}
 use Rattle.rules.specs.Laws.{OrderLaws, TableLaws}
 use Rattle.rules.proofs.Facts.{not-false, and_left, and_right, both, neither_left, either, condition, passed, refused-not-allowed}
+use Rattle.rules.specs.declared.Refusal.TheVariants.{Formless}
 
 -- ---- kinds
 
@@ -86,20 +87,20 @@ module _ {A : Labels} where
 
 -- what holds where a call is allowed
 pub record Pass {A : Labels} (T : Tables A) (t : T.Table) (c : Call A) : Type 0 where
-  pub allowed : verdict T t c ≡ Allowed
+  pub allowed : verdict T t c ≡ Ok tt
   pub formed : T.formed t ≡ true
   pub off : (n : ℕ) → condition n (refusals (T.groups t) (at T t (caller_of c)) (at T t (other_of c)) c) ≡ false
 
 module _ {A : Labels} (T : Tables A) where
-  pub pass : (t : T.Table) (c : Call A) → verdict T t c ≡ Allowed → Pass T t c
+  pub pass : (t : T.Table) (c : Call A) → verdict T t c ≡ Ok tt → Pass T t c
   pass t c e = go (T.formed t) refl e
     where
       r : Refusals
       r = refusals (T.groups t) (at T t (caller_of c)) (at T t (other_of c)) c
 
-      go : (b : Bool) → T.formed t ≡ b → first (99 if not b else r) ≡ Allowed → Pass T t c
+      go : (b : Bool) → T.formed t ≡ b → first (Formless if not b else r) ≡ Ok tt → Pass T t c
       go true f q = record { allowed = e; formed = f; off = passed r q }
-      go false f q = absurd (refused-not-allowed 99 q)
+      go false f q = absurd (refused-not-allowed Formless q)
 
   -- a program stands in one of the 32 slots
   pub program_in : (t : T.Table) (i : ℕ) → is_program (at T t i).kind ≡ true → i < 32
@@ -159,16 +160,16 @@ module _ {A : Labels} (T : Tables A) where
     step_formed t c f = go (verdict T t c) refl
       where
         go : (v : Outcome) → verdict T t c ≡ v → T.formed (on_allowed v (T.store t (target c) (writes t c)) t) ≡ true
-        go (Refused n) e = f
-        go Allowed e = let p = pass t c e in L.store_formed t (target c) (writes t c) f (target_in t c p) (writes_formed t c p)
+        go (Err n) e = f
+        go (Ok _) e = let p = pass t c e in L.store_formed t (target c) (writes t c) f (target_in t c p) (writes_formed t c p)
 
     -- and so are the groups
     pub step_groups : (t : T.Table) (c : Call A) → T.groups (step T t c) ≡ T.groups t
     step_groups t c = go (verdict T t c) refl
       where
         go : (v : Outcome) → verdict T t c ≡ v → T.groups (on_allowed v (T.store t (target c) (writes t c)) t) ≡ T.groups t
-        go (Refused n) e = refl
-        go Allowed e = let p = pass t c e in L.store_groups t (target c) (writes t c) p.formed (target_in t c p) (writes_formed t c p)
+        go (Err n) e = refl
+        go (Ok _) e = let p = pass t c e in L.store_groups t (target c) (writes t c) p.formed (target_in t c p) (writes_formed t c p)
 
     -- what holds of every slot, and of what an allowed call writes, holds of every slot after the call
     pub step_all : (P : ℕ → Slot A → Type 0) (t : T.Table) (c : Call A) → (Pass T t c → P (target c) (writes t c)) → ((i : ℕ) → P i (at T t i))
@@ -180,5 +181,5 @@ module _ {A : Labels} (T : Tables A) where
         new p false e = h i
 
         go : (v : Outcome) → verdict T t c ≡ v → P i (at T (on_allowed v (T.store t (target c) (writes t c)) t) i)
-        go (Refused n) e = h i
-        go Allowed e = let p = pass t c e in rw (stored_at t c p i) (new p (eqb i (target c)) refl)
+        go (Err n) e = h i
+        go (Ok _) e = let p = pass t c e in rw (stored_at t c p i) (new p (eqb i (target c)) refl)

@@ -10,8 +10,8 @@ use lib.ListN.{length}
 use borrow.Author.Tests.{eqb-true}
 use Rattle.rules.specs.declared.Kind.{Kind}
 use Rattle.rules.specs.declared.Kind.TheVariants.{Free, Item, Program}
-use Rattle.rules.specs.declared.Outcome.{Outcome}
-use Rattle.rules.specs.declared.Outcome.TheVariants.{Allowed, Refused}
+use Rattle.rules.specs.Numbers.{Outcome}
+use Rattle.std.specs.Prelude.{Ok, Err}
 use Rattle.rules.specs.Labels.{Labels}
 use Rattle.rules.specs.Table.{is_free, is_program, Slot, Tables, at}
 use Rattle.rules.specs.Calls.{Call, put, show, send, fetch, add_tag, drop_tag, create, release, hand, fields_of, caller_of, other_of, target, written, moved, moves_content, is_show, lent}
@@ -137,7 +137,7 @@ module _ {A : Labels} (T : Tables A) (O : OrderLaws A) (L : TableLaws T) (H : Hi
         ∙ ap (λ (gs : List A.Group). first (refusals gs x' y' c)) a.groups)
 
     -- the conditions of the second call, where both are allowed
-    allowed : verdict T t c ≡ Allowed → verdict T u c ≡ Allowed
+    allowed : verdict T t c ≡ Ok tt → verdict T u c ≡ Ok tt
     allowed e = sym verdict_alike ∙ e
 
     written_alike : Pass T t c → Pass T u c → low H (target c) (writes T t c) ≡ low H (target c) (writes T u c)
@@ -152,10 +152,10 @@ module _ {A : Labels} (T : Tables A) (O : OrderLaws A) (L : TableLaws T) (H : Hi
     moved_alike = go (verdict T t c) (verdict T u c) refl refl verdict_alike
       where
         go : (v w : Outcome) → verdict T t c ≡ v → verdict T u c ≡ w → v ≡ w → on_allowed v (moved x y c) [] ≡ on_allowed w (moved x' y' c) []
-        go (Refused n) (Refused k) e f q = refl
-        go (Refused n) Allowed e f q = cc
-        go Allowed (Refused n) e f q = cc
-        go Allowed Allowed e f q =
+        go (Err n) (Err k) e f q = refl
+        go (Err n) (Ok _) e f q = cc
+        go (Ok _) (Err n) e f q = cc
+        go (Ok _) (Ok _) e f q =
             sym (low_moved H (T.groups t) x y G W c (a.safe (caller_of c)) (a.safe (other_of c)) h (pass T t c e).off)
             ∙ looks (λ v w. moved v w c)
             ∙ low_moved H (T.groups u) x' y' G W c (safe_right t u a (caller_of c)) (safe_right t u a (other_of c)) g (pass T u c f).off
@@ -169,10 +169,10 @@ module _ {A : Labels} (T : Tables A) (O : OrderLaws A) (L : TableLaws T) (H : Hi
 
         go : (v w : Outcome) → verdict T t c ≡ v → verdict T u c ≡ w → v ≡ w
             → low H i (at T (on_allowed v (T.store t (target c) (writes T t c)) t) i) ≡ low H i (at T (on_allowed w (T.store u (target c) (writes T u c)) u) i)
-        go (Refused n) (Refused k) e f q = a.slots i
-        go (Refused n) Allowed e f q = cc
-        go Allowed (Refused n) e f q = cc
-        go Allowed Allowed e f q = let p = pass T t c e in let r = pass T u c f in
+        go (Err n) (Err k) e f q = a.slots i
+        go (Err n) (Ok _) e f q = cc
+        go (Ok _) (Err n) e f q = cc
+        go (Ok _) (Ok _) e f q = let p = pass T t c e in let r = pass T u c f in
             rw (stored_at T O L t c p i, stored_at T O L u c r i) (new p r (eqb i (target c)) refl)
 
     pub after_other : Alike T H G (step T t c) (step T u c)

@@ -2,7 +2,7 @@
 -- places in the list; and what an audit of a run's own records shows, by the calls of that run.
 -- Assumes nothing.
 use Rattle.std.specs.Prelude.{◌≡◌, Bool, cond, not, ◌&&◌, ◌||◌, List, [], ◌∷◌, ◌++◌, ℕ, zero, suc, ◌+◌, ◌*◌, ◌/◌, ◌≤◌, ltb, eqb, length, get_or, take, drop}
-use Rattle.rules.specs.declared.Outcome.TheVariants.{Allowed}
+use Rattle.std.specs.Prelude.{Ok}
 use Rattle.rules.specs.Labels.{Labels}
 use Rattle.rules.specs.Table.{is_free, is_item, Tables, at}
 use Rattle.rules.specs.Calls.{Call, caller_of, other_of}
@@ -10,6 +10,7 @@ use Rattle.rules.specs.Refusals.{Refusals, allow, ◌if◌else◌, first, number
 use Rattle.rules.specs.Record.{answer, visible, audit}
 use Rattle.rules.specs.Runs.{final, trace, records}
 use Rattle.rules.specs.ByNumber.{among}
+use Rattle.rules.specs.declared.Refusal.TheVariants.{NoProgram, ListNotWhole, NoRoomForRecords, Formless}
 
 -- f 0, f 1 and so on, n of them, joined
 unfoldable pub joined : ℕ → (ℕ → List ℕ) → List ℕ
@@ -33,17 +34,17 @@ module _ {A : Labels} (T : Tables A) where
   -- An audit checks 99, 1, 12, 13
   abbrev pub audit_by_number : T.Table → ℕ → List ℕ → List ℕ → Refusals
   audit_by_number t i list buf =
-      99 if not (T.formed t)
-      else 1 if is_free (at T t i).kind || is_item (at T t i).kind
-      else 12 if not (eqb (length list / size A * size A) (length list))
-      else 13 if ltb (length buf) (length (shown_to A (at T t i).sec list))
+      Formless if not (T.formed t)
+      else NoProgram if is_free (at T t i).kind || is_item (at T t i).kind
+      else ListNotWhole if not (eqb (length list / size A * size A) (length list))
+      else NoRoomForRecords if ltb (length buf) (length (shown_to A (at T t i).sec list))
       else allow
 
   -- The first of them that applies is the outcome of every audit. An allowed one shows the records within its caller's S, at the
   -- buffer's front, and leaves the rest
   pub record AuditShows (t : T.Table) (i : ℕ) (list buf : List ℕ) : Type 0 where
     pub outcome : (audit T t i list buf).outcome ≡ first (audit_by_number t i list buf)
-    pub part : (audit T t i list buf).outcome ≡ Allowed → (audit T t i list buf).part ≡ shown_to A (at T t i).sec list
+    pub part : (audit T t i list buf).outcome ≡ Ok tt → (audit T t i list buf).part ≡ shown_to A (at T t i).sec list
     pub front : take (length (audit T t i list buf).part) (audit T t i list buf).buffer ≡ (audit T t i list buf).part
     pub rest : (k : ℕ) → length (audit T t i list buf).part ≤ k → get_or (audit T t i list buf).buffer k 0 ≡ get_or buf k 0
 
@@ -67,11 +68,11 @@ module _ {A : Labels} (T : Tables A) where
   -- or 1, or by 13 where exactly these need more bytes than the buffer has
   pub record RunShows (t : T.Table) (cs : List (Call A)) (u : T.Table) (i : ℕ) (buf : List ℕ) : Type 0 where
     pub outcome : (audit T u i (records T t cs) buf).outcome ≡ first (
-        99 if not (T.formed u)
-        else 1 if is_free (at T u i).kind || is_item (at T u i).kind
-        else 13 if ltb (length buf) (length (records_for (at T u i).sec t cs))
+        Formless if not (T.formed u)
+        else NoProgram if is_free (at T u i).kind || is_item (at T u i).kind
+        else NoRoomForRecords if ltb (length buf) (length (records_for (at T u i).sec t cs))
         else allow)
-    pub part : (audit T u i (records T t cs) buf).outcome ≡ Allowed → (audit T u i (records T t cs) buf).part ≡ records_for (at T u i).sec t cs
+    pub part : (audit T u i (records T t cs) buf).outcome ≡ Ok tt → (audit T u i (records T t cs) buf).part ≡ records_for (at T u i).sec t cs
 
   abbrev pub RunsAudited : Type 0
   RunsAudited = (t : T.Table) (cs : List (Call A)) (i : ℕ) (buf : List ℕ) → RunShows t cs (final (step T) t cs) i buf

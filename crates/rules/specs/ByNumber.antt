@@ -10,6 +10,7 @@ use Rattle.rules.specs.Calls.{Call, send, fetch, with_rights, fields_of, kind_of
 use Rattle.rules.specs.Refusals.{Refusals, allow, ◌if◌else◌, first, number_of, refusals, verdict}
 use Rattle.rules.specs.Record.{need_of, moved_by, answer}
 use Rattle.rules.specs.Claims.{listed, audit_listed}
+use Rattle.rules.specs.declared.Refusal.TheVariants.{NoProgram, OutOfRange, SlotFree, SlotTaken, TooLong, NoRoom, FlowForbidden, NotReleasable, OtherIsItem, NoRight, BreaksGroup, Formless}
 
 -- one of these kinds of call: 1 put, 2 show, 3 send, 4 fetch, 5 add, 6 drop, 7 create, 8 release, 9 hand
 abbrev pub among : List ℕ → ℕ → Bool
@@ -36,24 +37,24 @@ module _ {A : Labels} where
       let k = kind_of c in
       let n = (fields_of c).set in
       let p = (fields_of c).tag in
-      1 if is_free a.kind || is_item a.kind
-      else 2 if (among (3 ∷ 4 ∷ 7 ∷ 8 ∷ 9 ∷ []) k && ltb 31 (other_of c)) || (tag_unknown A p || set_unknown k n)
-      else 3 if among (3 ∷ 4 ∷ 8 ∷ 9 ∷ []) k && is_free b.kind
-      else 4 if eqb k 7 && not (is_free b.kind)
-      else 5 if eqb k 1 && ltb 64 (length (moved a b c))
-      else 6 if eqb k 2 && ltb (length (lent c)) (length a.content)
-      else 7 if (eqb k 3 && not (flow a b)) || (eqb k 4 && not (flow b a))
-      else 8 if eqb k 8 && not (eqb (caller_of c) (other_of c) || (is_item b.kind && (A.same a.sec b.sec && A.same a.int b.int)))
-      else 9 if eqb k 9 && is_item b.kind
-      else 10 if (eqb k 5 && tag_missing A p (add_right n a.rights))
+      NoProgram if is_free a.kind || is_item a.kind
+      else OutOfRange if (among (3 ∷ 4 ∷ 7 ∷ 8 ∷ 9 ∷ []) k && ltb 31 (other_of c)) || (tag_unknown A p || set_unknown k n)
+      else SlotFree if among (3 ∷ 4 ∷ 8 ∷ 9 ∷ []) k && is_free b.kind
+      else SlotTaken if eqb k 7 && not (is_free b.kind)
+      else TooLong if eqb k 1 && ltb 64 (length (moved a b c))
+      else NoRoom if eqb k 2 && ltb (length (lent c)) (length a.content)
+      else FlowForbidden if (eqb k 3 && not (flow a b)) || (eqb k 4 && not (flow b a))
+      else NotReleasable if eqb k 8 && not (eqb (caller_of c) (other_of c) || (is_item b.kind && (A.same a.sec b.sec && A.same a.int b.int)))
+      else OtherIsItem if eqb k 9 && is_item b.kind
+      else NoRight if (eqb k 5 && tag_missing A p (add_right n a.rights))
       || ((eqb k 6 && tag_missing A p (drop_right n a.rights)) || (eqb k 9 && tag_missing A p (right_at n a.rights)))
-      else 11 if eqb k 9 && not (keeps_all gs (written a b c))
+      else BreaksGroup if eqb k 9 && not (keeps_all gs (written a b c))
       else allow
 
   module _ (T : Tables A) where
     -- 99 comes before all others
     abbrev pub all_by_number : T.Table → Call A → Refusals
-    all_by_number t c = 99 if not (T.formed t) else by_number (T.groups t) (at T t (caller_of c)) (at T t (other_of c)) c
+    all_by_number t c = Formless if not (T.formed t) else by_number (T.groups t) (at T t (caller_of c)) (at T t (other_of c)) c
 
     -- The first of the list that applies is the verdict of every call
     abbrev pub ListByNumber : Type 0

@@ -1,7 +1,9 @@
 -- What is claimed of the hub's rules, for the tables T. The proofs are under proofs/, for any labels and tables with the laws.
 -- Assumes nothing.
 use Rattle.std.specs.Prelude.{◌≡◌, Bool, true, false, not, ◌&&◌, ◌||◌, List, [], ℕ, ◌≤◌, ltb, leb, eqb, length, get_or}
-use Rattle.rules.specs.declared.Outcome.TheVariants.{Refused}
+use Rattle.std.specs.Prelude.{Err}
+use Rattle.rules.specs.declared.Refusal.{Refusal}
+use Rattle.rules.specs.Numbers.{number}
 use Rattle.rules.specs.Labels.{Labels}
 use Rattle.rules.specs.Table.{is_program, Tables, at, accepted}
 use Rattle.rules.specs.Calls.{Call, kind_of, caller_of, other_of, lent}
@@ -30,7 +32,7 @@ module _ {A : Labels} (T : Tables A) where
     pub count : get_or (answer T t c).entry 4 0 ≡ 0
 
   abbrev pub RefusalsMoveNothing : Type 0
-  RefusalsMoveNothing = (t : T.Table) (c : Call A) (n : ℕ) → verdict T t c ≡ Refused n → Unmoved t c n
+  RefusalsMoveNothing = (t : T.Table) (c : Call A) (r : Refusal) → verdict T t c ≡ Err r → Unmoved t c (number r)
 
   -- A refused audit has a listed number, leaves its buffer and hands back an empty part
   pub record AuditUnmoved (t : T.Table) (i : ℕ) (list buf : List ℕ) (n : ℕ) : Type 0 where
@@ -39,7 +41,7 @@ module _ {A : Labels} (T : Tables A) where
     pub part : (audit T t i list buf).part ≡ []
 
   abbrev pub RefusedAuditsMoveNothing : Type 0
-  RefusedAuditsMoveNothing = (t : T.Table) (i : ℕ) (list buf : List ℕ) (n : ℕ) → (audit T t i list buf).outcome ≡ Refused n → AuditUnmoved t i list buf n
+  RefusedAuditsMoveNothing = (t : T.Table) (i : ℕ) (list buf : List ℕ) (r : Refusal) → (audit T t i list buf).outcome ≡ Err r → AuditUnmoved t i list buf (number r)
 
   -- The part that show or an audit hands back fits the lent buffer, which keeps its length
   pub record PartsFit : Type 0 where

@@ -4,12 +4,13 @@
 use Rattle.std.specs.Prelude.{◌≡◌, ◌≢◌, true, false, List, [], ℕ, ◌≤◌, length, get_or, take}
 use Rattle.rules.specs.declared.Kind.{Kind}
 use Rattle.rules.specs.declared.Kind.TheVariants.{Free, Item, Program}
-use Rattle.rules.specs.declared.Outcome.TheVariants.{Allowed, Refused}
+use Rattle.std.specs.Prelude.{Ok, Err}
 use Rattle.rules.specs.Labels.{Labels}
 use Rattle.rules.specs.Table.{Slot, Tables, at}
 use Rattle.rules.specs.Calls.{Call, put, show, send, fetch, add_tag, drop_tag, create, release, hand}
 use Rattle.rules.specs.Refusals.{verdict, step}
 use Rattle.rules.specs.Record.{answer}
+use Rattle.rules.specs.declared.Refusal.TheVariants.{NoRight}
 
 -- a slot by all that it holds: kind, S, I, the four rights, content
 abbrev pub holding : {A : Labels} → Kind → A.Label → A.Label → A.Label → A.Label → A.Label → A.Label → List ℕ → Slot A
@@ -25,7 +26,7 @@ module _ {A : Labels} (T : Tables A) (t : T.Table) where
     pub count : get_or (answer T t c).entry 4 0 ≡ n
 
   abbrev pub Leaves : Call A → ℕ → Slot A → ℕ → Type 0
-  Leaves c k e n = verdict T t c ≡ Allowed → Left c k e n
+  Leaves c k e n = verdict T t c ≡ Ok tt → Left c k e n
 
   -- it leaves every slot and the groups as they were
   pub record Same (c : Call A) : Type 0 where
@@ -69,7 +70,7 @@ module _ {A : Labels} (T : Tables A) (t : T.Table) where
     -- 1 given bytes replace the caller's content
     pub puts : (i : ℕ) (bs : List ℕ) → Leaves (put i bs) i (holding Program (S i) (I i) (sa i) (sd i) (ia i) (id i) bs) (length bs)
     -- 2 the caller's content is copied to the front of a lent buffer
-    pub shows : (i : ℕ) (buf : List ℕ) → verdict T t (show i buf) ≡ Allowed → Shown i buf (content i)
+    pub shows : (i : ℕ) (buf : List ℕ) → verdict T t (show i buf) ≡ Ok tt → Shown i buf (content i)
     pub shows_only : (i : ℕ) (buf : List ℕ) → Same (show i buf)
     -- 3 the caller's content replaces the other's
     pub sends : (i j : ℕ) → Leaves (send i j) j (holding (kind j) (S j) (I j) (sa j) (sd j) (ia j) (id j) (content i)) (length (content i))
@@ -98,8 +99,8 @@ module _ {A : Labels} (T : Tables A) (t : T.Table) where
   -- The matching right is needed, also where the tag is already on or off: an allowed call has it, and one that is refused by 10
   -- lacks it
   pub record Asks (c : Call A) (l : A.Label) (p : A.Tag) : Type 0 where
-    pub has : verdict T t c ≡ Allowed → A.has l p ≡ true
-    pub lacks : verdict T t c ≡ Refused 10 → A.has l p ≡ false
+    pub has : verdict T t c ≡ Ok tt → A.has l p ≡ true
+    pub lacks : verdict T t c ≡ Err NoRight → A.has l p ≡ false
 
   pub record RightsAsked : Type 0 where
     pub adds_S : (i : ℕ) (p : A.Tag) → Asks (add_tag i 0 p) (sa i) p

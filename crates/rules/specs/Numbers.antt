@@ -1,6 +1,6 @@
--- Document 01, 'When a call is turned down': the number of each refusal.
+-- Document 01, 'When a call is turned down': the refusals, each with its number, and what a call comes to.
 -- Assumes nothing.
-use Rattle.std.specs.Prelude.{ℕ}
+use Rattle.std.specs.Prelude.{ℕ, Result}
 use Rattle.rules.specs.declared.Refusal.{Refusal}
 use Rattle.rules.specs.declared.Refusal.TheVariants.{NoProgram, OutOfRange, SlotFree, SlotTaken, TooLong, NoRoom, FlowForbidden, NotReleasable, OtherIsItem, NoRight, BreaksGroup, ListNotWhole, NoRoomForRecords, TextTooLong, BadLine, SlotTwice, EntityBreaksGroup, Formless}
 
@@ -23,3 +23,7 @@ number BadLine = 15
 number SlotTwice = 16
 number EntityBreaksGroup = 17
 number Formless = 99
+
+-- a call is allowed, or turned down by a refusal
+abbrev pub Outcome : Type 0
+Outcome = Result (Unit {0}) Refusal

@@ -4,7 +4,7 @@ ghost use Rattle.std.specs.Prelude.{◌≡◌};
 ghost use Rattle.rules.specs.Numbers.{number};
 
 // What a slot holds. Free comes first, as the value that definitions give to a read past an array's end.
-#[derive(Clone, Copy)]
+#[derive(Clone, Copy, PartialEq, Eq)]
 pub enum Kind {
     Free,
     Item,
@@ -40,13 +40,6 @@ impl Refusal {
     {
         self as u8
     }
-}
-
-// What a call or an audit comes to: its work done, or one numbered refusal.
-#[derive(Clone, Copy)]
-pub enum Outcome {
-    Allowed,
-    Refused(u8),
 }
 
 // The nine calls by what each names as one byte: the caller, then the other's slot, the set field and the tag, as far as it

@@ -1,32 +1,18 @@
-use Prim.Native.Nat.{◌+◌}
-use mathlib.Core.Path.{refl, sym, ap, ◌∙◌}
-use mathlib.Core.Bool.{Bool, ◌&&◌}
-use native.Mathlib.Omega.{arith}
-use borrow.Author.Rules.{rules}
-use Rattle.label.specs.Tags.{empty}
-use Rattle.rules.proofs.Facts.{length_mapped}
-use Rattle.groups.proofs.Groups.{left, left_more, left_none}
+use Rattle.std.proofs.Common.{◌∙◌, Bool, ◌&&◌, refl, List, rules, tests}
+use Rattle.std.specs.List.{list_all}
+use Rattle.std.proofs.lemmas.Iterator.{YieldsList-from_slice}
+use Rattle.std.proofs.lemmas.Iterator.Search.{all_from_yields_List}
+use Rattle.std.proofs.lemmas.List.Recursion.{same_from_clauses}
+use Rattle.rules.specs.Table.{keeps_each}
+use Rattle.label.specs.declared.Label.{Label}
+use Rattle.label.specs.Tags.{keeps_to}
+use Rattle.label.specs.Words.{words}
 use Rattle.groups.proofs.keeps_each.Goals as goal
 
-pub loop-g-init : goal.loop-g-init
-loop-g-init c = (c.at_most-n.ensures, search (rules, length_mapped), refl)
-
-pub returns-then-not-keeps : goal.returns-then-not-keeps
-unfolding empty
-returns-then-not-keeps c =
-    let a = c.args in sym (sym c.loop-g.invariant.2 ∙ left_more c.args.groups c.loop-g.invariant.1 a.count a.held c.loop-g.g (omega arith) c.keeps.ensures
-    ∙ ap (λ (x : Bool). x && left c.args.groups a.count a.held (c.loop-g.g + 1)) (c.if-not-keeps.true))
-
-pub loop-g-preserved : goal.loop-g-preserved
-unfolding empty
-loop-g-preserved c =
-    let a = c.args in (
-      c.loop-g.invariant.0,
-      c.loop-g.invariant.1,
-      ap (λ (x : Bool). x && left c.args.groups a.count a.held (c.loop-g.g + 1)) (sym (c.if-not-keeps.false))
-          ∙ sym (left_more c.args.groups c.loop-g.invariant.1 a.count a.held c.loop-g.g (omega arith) c.keeps.ensures) ∙ c.loop-g.invariant.2,
-    )
+-- `groups::keeps_each` meets its contract. Assumes nothing.
 
 pub returns : goal.returns
 returns c =
-    let a = c.args in sym (sym c.loop-g.invariant.2 ∙ left_none c.args.groups c.loop-g.invariant.1 a.count a.held c.loop-g.g (omega arith))
+    let a = c.args in let test = λ (g : Label). keeps_to g a.held in
+    all_from_yields_List test _ _ c.all.result c.all.ensures.ran (YieldsList-from_slice a.groups.now cc) (λ x b q k. search (rules, tests))
+    ∙ same_from_clauses (list_all test) (λ (l : List Label). keeps_each words l a.held) (λ (g : Label) (b : Bool). test g && b) refl (λ _ _. refl) (λ _ _. refl) a.groups.now

@@ -1,4 +1,4 @@
-use borrow.Author.Rules.{rules}
+use Rattle.std.proofs.Common.{◌∙◌, rules}
 use Rattle.label.specs.Tags.{equal_of}
 use Rattle.label.proofs.Laws.{equal_is}
 use Rattle.label.proofs.same.Goals as goal
@@ -7,4 +7,4 @@ use Rattle.label.proofs.same.Goals as goal
 
 pub returns : goal.returns
 unfolding equal_of
-returns c = let a = c.args in equal_is 64 a.a.bits a.b.bits (search rules) (search rules)
+returns c = let a = c.args in c.eq.ensures ∙ equal_is 64 a.a.bits a.b.bits (search rules) (search rules)

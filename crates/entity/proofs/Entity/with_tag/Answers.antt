@@ -1,12 +1,8 @@
+use Rattle.std.proofs.Common.{rules}
+use Rattle.label.specs.Tags.{with_tag}
 use Rattle.entity.proofs.Entity.with_tag.Goals as goal
 
 -- `entity::Entity::with_tag` meets its contract. Assumes nothing.
 
 pub returns : goal.returns
-returns c =
-    simp (
-      c.choose-self-2.ensures,
-      c.with_tag-2.ensures,
-      c.choose-self.ensures,
-      c.with_tag.ensures,
-    )
+returns c = c.relabel.ensures (λ l. with_tag l c.args.tag) (λ l r p. search rules)
