@@ -3,12 +3,13 @@
 use mathlib.Core.Path.{◌≡◌, refl, sym, ap, ap₂, subst, ◌∙◌}
 use mathlib.Core.Bool.{Bool, true, false, cond, not, ◌||◌}
 use mathlib.Core.List.{List, [], ◌∷◌, ◌++◌}
-use mathlib.Core.Option.{Option, none, some}
+use Rattle.std.specs.Prelude.{Option, None, Some, Ok, Err}
+use Rattle.std.specs.Option.{option_or, option_map_or}
 use Prim.Native.Nat.{ℕ, ◌+◌, ◌≤◌, ◌<◌}
 use native.Mathlib.Omega.{arith}
 use lib.Dec.{eqb, ltb}
 use lib.ListN.{length, length-append}
-use borrow.Author.Tests.{eqb-true, eqb-false, ltb-true}
+use borrow.Author.Tests.{ltb-true}
 use Rattle.rules.specs.Table.{Slot, is_free, slot_keeps, slot_formed, keeps_all, parts_formed, accepted}
 use Rattle.rules.proofs.Facts.{and_right, both}
 use Rattle.rules.proofs.Bounded.{all_of}
@@ -25,12 +26,12 @@ use Rattle.values.specs.Values.{hex_set_of}
 use Rattle.text.specs.Lines.{Lines, done, cut, line, fields_in}
 use Rattle.rows.specs.declared.EntityColumns.{EntityColumns}
 use Rattle.rows.specs.Entities.{EntitySaid, entity_columns, entity_formed, entity_of}
-use Rattle.textblocks.specs.Blocks.{start, bad_line, names_at, rows_at, groups_at, on_some, or_else}
+use Rattle.textblocks.specs.Blocks.{start, bad_line, names_at, rows_at, groups_at}
 use Rattle.load.specs.declared.Stored.{Stored}
-use Rattle.load.specs.declared.Verdict.{Verdict}
-use Rattle.load.specs.declared.Verdict.TheVariants.{Accepted, Refused}
+use Rattle.rules.specs.declared.Refusal.{Refusal}
+use Rattle.rules.specs.declared.Refusal.TheVariants.{TextTooLong, BadLine, SlotTwice, EntityBreaksGroup}
 use Rattle.load.specs.Tables.{groups_from, empty_with, none_stored, breaks_at, with_entity, fill, groups_in, entities_in, table_in}
-use Rattle.load.specs.Load.{refuse_at, verdict_of, on_accepted, load_of}
+use Rattle.load.specs.Load.{Verdict, refuse_at, verdict_of, on_accepted, load_of}
 use Rattle.load.specs.Claims.{LoadsAccepted}
 use Rattle.load.proofs.Rows.{empty-none}
 use Rattle.load.proofs.EntityLines.{Sound, row_sound}
@@ -86,35 +87,35 @@ keep_more t y k s h = rw (stored t y s.len) (record {
 -- ---- storing rows: where none breaks a group, the table keeps to its groups
 
 abbrev Kept : Stored → Type 0
-Kept s = s.breaks ≡ 0 → Keeping s.table
+Kept s = s.breaks ≡ None → Keeping s.table
 
-entity-kept : (n : ℕ) (s : Stored) (y : EntitySaid) → 0 < n → Sound y → Kept s → Kept (with_entity n s y)
-unfolding with_entity breaks_at or_else
-entity-kept n s y p d k e = go (keeps_all (groups_of s.table) (bare y.entity)) refl e
+entity-kept : (n : ℕ) (s : Stored) (y : EntitySaid) → Sound y → Kept s → Kept (with_entity n s y)
+unfolding with_entity breaks_at
+entity-kept n s y d k e = go (keeps_all (groups_of s.table) (bare y.entity)) refl e
   where
-    breaks : (t : Bool) → eqb s.breaks 0 ≡ t → cond t n s.breaks ≡ 0 → ⊥
-    breaks true f q = omega arith
-    breaks false f q = eqb-false s.breaks 0 f q
+    breaks : (o : Option ℕ) → option_or o (Some n) ≡ None → ⊥
+    breaks None q = cc
+    breaks (Some m) q = cc
 
-    go : (b : Bool) → keeps_all (groups_of s.table) (bare y.entity) ≡ b → cond b s.breaks (cond (eqb s.breaks 0) n s.breaks) ≡ 0
+    go : (b : Bool) → keeps_all (groups_of s.table) (bare y.entity) ≡ b → cond b s.breaks (option_or s.breaks (Some n)) ≡ None
         → Keeping (with_slot s.table y.slot y.entity (padded y.content))
     go true h q = keep_more s.table y (k q) d h
-    go false h q = absurd (breaks (eqb s.breaks 0) refl q)
+    go false h q = absurd (breaks s.breaks q)
 
 either_kept : (b : Bool) (u v : Stored) → Kept u → Kept v → Kept (cond b u v)
 either_kept true u v p q = p
 either_kept false u v p q = q
 
-fill-keeps : (cs : EntityColumns) (ls : Lines) (n : ℕ) (s : Stored) → 0 < n → Kept s → Kept (fill cs n s ls)
+fill-keeps : (cs : EntityColumns) (ls : Lines) (n : ℕ) (s : Stored) → Kept s → Kept (fill cs n s ls)
 unfolding fill
-fill-keeps cs done n s p k = k
-fill-keeps cs cut n s p k = k
-fill-keeps cs (line l ls) n s p k = go (entity_of cs (fields_in l)) refl (λ u j. fill-keeps cs ls (n + 1) u (omega arith) j)
+fill-keeps cs done n s k = k
+fill-keeps cs cut n s k = k
+fill-keeps cs (line l ls) n s k = go (entity_of cs (fields_in l)) refl (λ u j. fill-keeps cs ls (n + 1) u j)
   where
     go : (o : Option EntitySaid) → entity_of cs (fields_in l) ≡ o → ((u : Stored) → Kept u → Kept (fill cs (n + 1) u ls))
-        → Kept (on_some o s (λ e. cond (is_free (entity_at s.table e.slot).kind) (fill cs (n + 1) (with_entity n s e) ls) (record { twice = n; breaks = s.breaks; table = s.table })))
-    go none e ih = k
-    go (some y) e ih = either_kept (is_free (entity_at s.table y.slot).kind) _ _ (ih (with_entity n s y) (entity-kept n s y p (row_sound y cs (fields_in l) e) k)) k
+        → Kept (option_map_or (λ e. cond (is_free (entity_at s.table e.slot).kind) (fill cs (n + 1) (with_entity n s e) ls) (record { twice = Some n; breaks = s.breaks; table = s.table })) o s)
+    go None e ih = k
+    go (Some y) e ih = either_kept (is_free (entity_at s.table y.slot).kind) _ _ (ih (with_entity n s y) (entity-kept n s y (row_sound cs (fields_in l) y e) k)) k
 
 -- at most 8 groups
 few : (ls : Lines) (gs : List Label) → length gs ≤ 8 → length (groups_from gs ls) ≤ 8
@@ -124,41 +125,40 @@ few cut gs h = h
 few (line l ls) gs h = go (hex_set_of l) (ltb (length gs) 8) refl (λ g k. few ls (gs ++ (g ∷ [])) (omega (arith, length-append gs (g ∷ []))))
   where
     go : (o : Option Label) (b : Bool) → ltb (length gs) 8 ≡ b → ((g : Label) → length gs < 8 → length (groups_from (gs ++ (g ∷ [])) ls) ≤ 8)
-        → length (on_some o gs (λ g. cond b (groups_from (gs ++ (g ∷ [])) ls) gs)) ≤ 8
-    go none b e ih = h
-    go (some g) true e ih = ih g (ltb-true (length gs) 8 e)
-    go (some g) false e ih = h
+        → length (option_map_or (λ g. cond b (groups_from (gs ++ (g ∷ [])) ls) gs) o gs) ≤ 8
+    go None b e ih = h
+    go (Some g) true e ih = ih g (ltb-true (length gs) 8 e)
+    go (Some g) false e ih = h
 
 -- ---- loading
 
-passed : (n l : ℕ) (v : Verdict) → refuse_at n l v ≡ Accepted → (l ≡ 0) × (v ≡ Accepted)
+passed : (r : Refusal) (l : Option ℕ) (v : Verdict) → refuse_at r l v ≡ Ok tt → (l ≡ None) × (v ≡ Ok tt)
 unfolding refuse_at
-passed n l v e = go (eqb l 0) refl e
-  where
-    go : (b : Bool) → eqb l 0 ≡ b → cond b v (Refused n l) ≡ Accepted → (l ≡ 0) × (v ≡ Accepted)
-    go true q f = (eqb-true l 0 q, f)
-    go false q f = let z : ◌≡◌ {A = ℕ} 0 1 = cc in absurd (omega arith)
+passed r None v e = (refl, e)
+passed r (Some n) v e = cc
 
 module _ (text : List ℕ) where
   -- no line of an accepted text is bad, and none breaks a group
-  lines_good : verdict_of text ≡ Accepted → (bad_line text ≡ 0) × ((entities_in text).breaks ≡ 0)
+  lines_good : verdict_of text ≡ Ok tt → (bad_line text ≡ None) × ((entities_in text).breaks ≡ None)
   unfolding verdict_of
   lines_good e = go (ltb 65535 (length text)) e
     where
-      go : (b : Bool) → cond b (Refused 14 0) (refuse_at 15 (bad_line text) (refuse_at 16 (entities_in text).twice (refuse_at 17 (entities_in text).breaks Accepted))) ≡ Accepted
-          → (bad_line text ≡ 0) × ((entities_in text).breaks ≡ 0)
-      go true q = let z : ◌≡◌ {A = ℕ} 0 1 = cc in absurd (omega arith)
+      go : (b : Bool)
+          → cond b (Err (record { refusal = TextTooLong; line = 0 }))
+          (refuse_at BadLine (bad_line text) (refuse_at SlotTwice (entities_in text).twice (refuse_at EntityBreaksGroup (entities_in text).breaks (Ok tt)))) ≡ Ok tt
+          → (bad_line text ≡ None) × ((entities_in text).breaks ≡ None)
+      go true q = cc
       go false q =
-          let r = passed 15 (bad_line text) _ q in
-          (r.0, (passed 17 _ Accepted (passed 16 (entities_in text).twice _ r.1).1).0)
+          let r = passed BadLine (bad_line text) _ q in
+          (r.0, (passed EntityBreaksGroup _ (Ok tt) (passed SlotTwice (entities_in text).twice _ r.1).1).0)
 
-  pub bad_none : verdict_of text ≡ Accepted → bad_line text ≡ 0
+  pub bad_none : verdict_of text ≡ Ok tt → bad_line text ≡ None
   bad_none e = (lines_good e).0
 
-  table_keeping : (entities_in text).breaks ≡ 0 → Keeping (table_in text)
+  table_keeping : (entities_in text).breaks ≡ None → Keeping (table_in text)
   unfolding table_in entities_in groups_in
   table_keeping b =
-      fill-keeps (entity_columns (names_at text start)) (rows_at text start) 2 (none_stored (empty_with (groups_in text))) (omega arith)
+      fill-keeps (entity_columns (names_at text start)) (rows_at text start) 2 (none_stored (empty_with (groups_in text)))
       (λ e. empty_keeping (groups_in text) (few (rows_at text (groups_at text)) [] (omega arith))) b
 
 pub loads_accepted : LoadsAccepted
@@ -166,5 +166,5 @@ unfolding load_of
 loads_accepted text = go (verdict_of text) refl
   where
     go : (v : Verdict) → verdict_of text ≡ v → accepted hub (on_accepted v (table_in text) empty_table) ≡ true
-    go Accepted e = keeping_accepted (table_in text) (table_keeping text (lines_good text e).1)
-    go (Refused n l) e = keeping_accepted empty_table (subst Keeping empty-none (empty_keeping [] (omega arith)))
+    go (Ok tt) e = keeping_accepted (table_in text) (table_keeping text (lines_good text e).1)
+    go (Err f) e = keeping_accepted empty_table (subst Keeping empty-none (empty_keeping [] (omega arith)))

@@ -1,13 +1,12 @@
 -- What the definitions of the entities and groups of a text say at one row.
 -- Assumes nothing.
-use mathlib.Core.Path.{◌≡◌, refl, sym, ap, ◌∙◌}
+use mathlib.Core.Path.{◌≡◌, refl, sym, ap, ap₂, ◌∙◌}
 use mathlib.Core.Bool.{true, false}
 use mathlib.Core.List.{List, [], ◌∷◌, ◌++◌, append_assoc}
-use mathlib.Core.Option.{Option, none, some}
+use Rattle.std.specs.Prelude.{Option, None, Some}
 use Prim.Native.Nat.{ℕ, suc, ◌+◌, ◌-◌, ◌≤◌, ◌<◌}
-use native.Mathlib.Decide.{dec_le}
 use native.Mathlib.Omega.{arith}
-use lib.ListN.{length, set, drop, replicate, length-append, length-replicate}
+use lib.ListN.{length, set, replicate, length-append, length-replicate}
 use lib.Seq.{set-append_seam}
 use borrow.Author.Tests.{lt-ltb, le-ltb}
 use Rattle.rules.specs.Table.{is_free}
@@ -16,66 +15,52 @@ use Rattle.label.specs.Tags.{empty}
 use Rattle.monitor.specs.declared.Table.{Table}
 use Rattle.monitor.specs.Table.{entity_at, empty_table}
 use Rattle.values.specs.Values.{hex_set_of}
-use Rattle.text.specs.Lines.{Lines, done, cut, line, lines_of, line_end, line_at, next_line, fields_in}
-use Rattle.text.proofs.Laws.{Over, Line, line_ends, line_here, lines_end, next_whole}
+use Rattle.text.specs.Lines.{Lines, done, cut, line, line_end, fields_in}
+use Rattle.text.proofs.Laws.{Over, line_ends, lines_end, next_whole, next_none}
 use Rattle.rows.specs.declared.EntityColumns.{EntityColumns}
-use Rattle.rows.specs.Entities.{EntitySaid, entity_by, entity_of}
+use Rattle.rows.specs.Entities.{EntitySaid, entity_of}
+use Rattle.textblocks.specs.declared.Place.{Place}
+use Rattle.textblocks.specs.Blocks.{Inside, Steps, lines_at, rows_at}
 use Rattle.load.specs.declared.Stored.{Stored}
-use Rattle.load.specs.Tables.{row_in, groups_from, empty_with, with_entity, fill}
+use Rattle.load.specs.Tables.{groups_from, empty_with, with_entity, fill}
 
-pub absurd_none : {A : Type 0} {x : A} → none ≡ some x → ⊥
-absurd_none {A} {x} e = let z : ◌≡◌ {A = ℕ} 0 1 = cc in omega arith
+-- ---- rows behind a line of names
 
--- ---- the row at a place
+module _ (text : List ℕ) (p q : Place) (h : Inside text p) where
+  pub none_left : Steps text p None q → Over (lines_at text p.at)
+  none_left s = (line_ends text p.at (line_end text p.at) h.0 refl).none s.0
 
-over_row : (ls : Lines) → Over ls → row_in ls ≡ []
-over_row done h = refl
-over_row cut h = refl
-over_row (line l ls) h = absurd h
-
-module _ (text : List ℕ) (at : ℕ) where
-  pub row_over : length text ≤ line_end text at → row_in (lines_of (drop at text)) ≡ []
-  row_over h = elim (dec_le at (length text)) [
-    | yes p ↦ over_row (lines_of (drop at text)) ((line_ends text at (line_end text at) p refl).none h)
-    | no p ↦ ap row_in (lines_end text at (omega arith))
-  ]
-
-  pub row_whole : line_end text at < length text → row_in (lines_of (drop at text)) ≡ line_at text at
-  unfolding line_end
-  row_whole h = ap row_in (line_here text at (line_end text at) refl (omega arith) h).is
-
-  -- where a row is read, a line stands
-  pub row_next : {A : Type 0} (f : List ℕ → Option A) (y : A) → f [] ≡ none → f (row_in (lines_of (drop at text))) ≡ some y → Line text at (next_line text at)
-  unfolding line_end
-  row_next f y z e = elim (dec_le (length text) (line_end text at)) [
-    | yes p ↦ absurd (absurd_none (sym z ∙ sym (ap f (row_over p)) ∙ e))
-    | no p ↦ rw (next_whole text at (omega arith)) (line_here text at (line_end text at) refl (omega arith) (omega arith))
-  ]
+  -- what is made of the rows behind the line at p, where nothing is made of none
+  pub behind : {A : Type 0} (f : ℕ → Lines → A) (x : A) → ((n : ℕ) (ls : Lines) → Over ls → f n ls ≡ x)
+      → (r : Option (ℕ × List ℕ)) → Steps text p r q → f q.line (lines_at text q.at) ≡ f (p.line + 1) (rows_at text p)
+  behind f x z None s =
+      let e : lines_at text (line_end text p.at) ≡ done = lines_end text (line_end text p.at) s.0 in
+      ap₂ (λ (n : ℕ) (a : ℕ). f n (lines_at text a)) (ap (λ (o : Place). o.line) s.1) (ap (λ (o : Place). o.at) s.1) ∙ z p.line _ (none_left s)
+      ∙ sym (rw (next_none text p.at s.0, e) (z (p.line + 1) done tt))
+  behind f x z (Some y) s = rw (s.2, next_whole text p.at s.0)
 
 -- ---- groups
 
-pub no_set : hex_set_of [] ≡ none
-unfolding hex_set_of
-no_set = refl
-
 module _ (gs : List Label) where
-  pub groups_none : (ls : Lines) → hex_set_of (row_in ls) ≡ none → groups_from gs ls ≡ gs
+  pub groups_over : (ls : Lines) → Over ls → groups_from gs ls ≡ gs
   unfolding groups_from
-  groups_none done e = refl
-  groups_none cut e = refl
-  groups_none (line l ls) e = rw e
+  groups_over done h = refl
+  groups_over cut h = refl
+  groups_over (line l ls) h = absurd h
 
-  module _ {all : Lines} {l : List ℕ} {ls : Lines} (w : all ≡ line l ls) (g : Label) (e : hex_set_of (row_in all) ≡ some g) where
-    row : hex_set_of l ≡ some g
-    row = ap (λ (x : Lines). hex_set_of (row_in x)) (sym w) ∙ e
-
-    pub groups_full : 8 ≤ length gs → groups_from gs all ≡ gs
+  module _ {all : Lines} {l : List ℕ} {ls : Lines} (w : all ≡ line l ls) where
+    pub groups_none : hex_set_of l ≡ None → groups_from gs all ≡ gs
     unfolding groups_from
-    groups_full h = rw (w, groups_from, row, le-ltb _ _ h)
+    groups_none e = rw (w, groups_from, e)
 
-    pub groups_step : length gs < 8 → groups_from gs all ≡ groups_from (gs ++ (g ∷ [])) ls
-    unfolding groups_from
-    groups_step h = rw (w, groups_from, row, lt-ltb _ _ h)
+    module _ (g : Label) (e : hex_set_of l ≡ Some g) where
+      pub groups_full : 8 ≤ length gs → groups_from gs all ≡ gs
+      unfolding groups_from
+      groups_full k = rw (w, groups_from, e, le-ltb _ _ k)
+
+      pub groups_step : length gs < 8 → groups_from gs all ≡ groups_from (gs ++ (g ∷ [])) ls
+      unfolding groups_from
+      groups_step k = rw (w, groups_from, e, lt-ltb _ _ k)
 
 pub empty-none : empty_with [] ≡ empty_table
 unfolding empty_with empty_table
@@ -101,33 +86,30 @@ empty-more t gs g e h =
     rw e (λ i. record { entities = empty_table.entities; content = empty_table.content; groups = p i; count = q i })
 
 -- what a loop over groups holds: a table with those so far, and the rows that are left
-pub record Gathered (text : List ℕ) (from : ℕ) (t : Table) (at : ℕ) : Type 0 where
+pub record Gathered (all : Lines) (t : Table) (left : Lines) : Type 0 where
   pub gs : List Label
   pub kept : t ≡ empty_with gs
-  pub says : groups_from gs (lines_of (drop at text)) ≡ groups_from [] (lines_of (drop from text))
+  pub says : groups_from gs left ≡ groups_from [] all
 
 -- ---- entities
 
-module _ (cs : EntityColumns) where
-  pub no_entity : entity_of cs (fields_in []) ≡ none
-  unfolding entity_of entity_by fields_in
-  no_entity = refl
+module _ (cs : EntityColumns) (n : ℕ) (s : Stored) where
+  pub fill_over : (ls : Lines) → Over ls → fill cs n s ls ≡ s
+  unfolding fill
+  fill_over done h = refl
+  fill_over cut h = refl
+  fill_over (line l ls) h = absurd h
 
-  module _ (n : ℕ) (s : Stored) where
-    pub fill_none : (ls : Lines) → entity_of cs (fields_in (row_in ls)) ≡ none → fill cs n s ls ≡ s
+  module _ {all : Lines} {l : List ℕ} {ls : Lines} (w : all ≡ line l ls) where
+    pub fill_none : entity_of cs (fields_in l) ≡ None → fill cs n s all ≡ s
     unfolding fill
-    fill_none done e = refl
-    fill_none cut e = refl
-    fill_none (line l ls) e = rw e
+    fill_none e = rw (w, fill, e)
 
-    module _ {all : Lines} {l : List ℕ} {ls : Lines} (w : all ≡ line l ls) (y : EntitySaid) (e : entity_of cs (fields_in (row_in all)) ≡ some y) where
-      entity : entity_of cs (fields_in l) ≡ some y
-      entity = ap (λ (x : Lines). entity_of cs (fields_in (row_in x))) (sym w) ∙ e
-
-      pub fill_twice : is_free (entity_at s.table y.slot).kind ≡ false → fill cs n s all ≡ record { twice = n; breaks = s.breaks; table = s.table }
+    module _ (y : EntitySaid) (e : entity_of cs (fields_in l) ≡ Some y) where
+      pub fill_twice : is_free (entity_at s.table y.slot).kind ≡ false → fill cs n s all ≡ record { twice = Some n; breaks = s.breaks; table = s.table }
       unfolding fill
-      fill_twice f = rw (w, fill, entity) (rw f)
+      fill_twice f = rw (w, fill, e) (rw f)
 
       pub fill_step : is_free (entity_at s.table y.slot).kind ≡ true → fill cs n s all ≡ fill cs (n + 1) (with_entity n s y) ls
       unfolding fill
-      fill_step f = rw (w, fill, entity) (rw f)
+      fill_step f = rw (w, fill, e) (rw f)

@@ -1,6 +1,7 @@
 -- Document 01, 'The text': the entities and groups of a text whose lines have the form, 16 and 17.
 -- Assumes nothing.
-use Rattle.std.specs.Prelude.{ℕ, ◌+◌, ◌-◌, Bool, cond, List, [], ◌∷◌, ◌++◌, length, replicate, ltb}
+use Rattle.std.specs.Prelude.{ℕ, ◌+◌, ◌-◌, Bool, Option, None, Some, cond, List, [], ◌∷◌, ◌++◌, length, replicate, ltb}
+use Rattle.std.specs.Option.{option_or, option_map_or}
 use Rattle.rules.specs.Table.{is_free, keeps_all}
 use Rattle.label.specs.declared.Label.{Label}
 use Rattle.label.specs.Tags.{empty}
@@ -12,7 +13,7 @@ use Rattle.values.specs.Values.{hex_set_of}
 use Rattle.text.specs.Lines.{Lines, done, cut, line, fields_in}
 use Rattle.rows.specs.declared.EntityColumns.{EntityColumns}
 use Rattle.rows.specs.Entities.{EntitySaid, entity_columns, entity_of}
-use Rattle.textblocks.specs.Blocks.{start, groups_at, names_at, rows_at, on_some, or_else}
+use Rattle.textblocks.specs.Blocks.{start, groups_at, names_at, rows_at}
 use Rattle.load.specs.declared.Stored.{Stored}
 
 -- ---- the groups
@@ -21,7 +22,7 @@ use Rattle.load.specs.declared.Stored.{Stored}
 unfoldable pub groups_from : List Label → Lines → List Label
 groups_from gs done = gs
 groups_from gs cut = gs
-groups_from gs (line l ls) = on_some (hex_set_of l) gs (λ g. cond (ltb (length gs) 8) (groups_from (gs ++ (g ∷ [])) ls) gs)
+groups_from gs (line l ls) = option_map_or (λ g. cond (ltb (length gs) 8) (groups_from (gs ++ (g ∷ [])) ls) gs) (hex_set_of l) gs
 
 -- the empty table with groups, which it has in 8 places, and how many there are
 unfoldable pub empty_with : List Label → Table
@@ -31,11 +32,11 @@ empty_with gs = record { entities = empty_table.entities; content = empty_table.
 
 -- a table in which nothing is stored yet
 abbrev pub none_stored : Table → Stored
-none_stored t = record { twice = 0; breaks = 0; table = t }
+none_stored t = record { twice = None; breaks = None; table = t }
 
 -- the first line whose entity breaks a group, which is the one so far, if there is one, or line n
-unfoldable pub breaks_at : ℕ → Bool → ℕ → ℕ
-breaks_at first keeps n = cond keeps first (or_else first n)
+unfoldable pub breaks_at : Option ℕ → Bool → ℕ → Option ℕ
+breaks_at first keeps n = cond keeps first (option_or first (Some n))
 
 -- what is stored, with the entity of line n
 unfoldable pub with_entity : ℕ → Stored → EntitySaid → Stored
@@ -52,8 +53,9 @@ module _ (cs : EntityColumns) where
   fill n s done = s
   fill n s cut = s
   fill n s (line l ls) =
-      on_some (entity_of cs (fields_in l)) s
-      (λ e. cond (is_free (entity_at s.table e.slot).kind) (fill (n + 1) (with_entity n s e) ls) (record { twice = n; breaks = s.breaks; table = s.table }))
+      option_map_or
+      (λ e. cond (is_free (entity_at s.table e.slot).kind) (fill (n + 1) (with_entity n s e) ls) (record { twice = Some n; breaks = s.breaks; table = s.table }))
+      (entity_of cs (fields_in l)) s
 
 -- ---- the table of a text
 
@@ -67,9 +69,3 @@ module _ (text : List ℕ) where
 
   unfoldable pub table_in : Table
   table_in = entities_in.table
-
--- the row at a place: a whole line, or nothing
-abbrev pub row_in : Lines → List ℕ
-row_in done = []
-row_in cut = []
-row_in (line l ls) = l

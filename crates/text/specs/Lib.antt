@@ -2,4 +2,3 @@ pub mod Ascii
 pub mod Bytes
 pub mod Lines
 pub mod Split
-pub mod Options

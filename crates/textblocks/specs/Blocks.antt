@@ -1,7 +1,7 @@
 -- Document 01, 'The text': where its blocks stand, and the first line of each that does not have the form.
 -- Assumes nothing.
-use Rattle.std.specs.Prelude.{ℕ, ◌+◌, ◌≤◌, Bool, true, false, cond, not, ◌&&◌, List, [], ◌∷◌, length, drop, eqb, ltb}
-use Rattle.std.proofs.Math.Option.{Option, none, some}
+use Rattle.std.specs.Prelude.{◌≡◌, ℕ, ◌+◌, ◌≤◌, ◌<◌, Bool, true, false, cond, not, ◌&&◌, Option, None, Some, MatchOption, is_some, List, [], ◌∷◌, length, drop, eqb, ltb}
+use Rattle.std.specs.Option.{option_or}
 use Rattle.values.specs.Values.{hex_set_of}
 use Rattle.text.specs.Lines.{Lines, done, cut, line, lines_of, line_end, line_at, next_line, fields_in, names_once}
 use Rattle.rows.specs.Names.{entity_names, group_names}
@@ -38,6 +38,11 @@ module _ (text : List ℕ) where
   abbrev pub Inside : Place → Type 0
   Inside p = (p.at ≤ length text) × (p.line ≤ p.at + 1)
 
+  -- one step over the lines of a text: a whole line with its number, and the place after it; none where none is left
+  abbrev pub Steps : Place → Option (ℕ × List ℕ) → Place → Type 0
+  Steps p r q = MatchOption r ((length text ≤ line_end text p.at) × (q ≡ p))
+      (λ x. (line_end text p.at < length text) × (x ≡ (p.line, line_at text p.at)) × (q ≡ record { at = line_end text p.at + 1; line = p.line + 1 }))
+
   unfoldable pub past_empty : Place → Place
   past_empty p = record { at = p.at + bytes_past (lines_at p.at); line = p.line + lines_past (lines_at p.at) }
 
@@ -56,15 +61,6 @@ module _ (text : List ℕ) where
   rows_at p = lines_at (next_line text p.at)
 
 -- ---- 15
-
-abbrev pub is_some : {A : Type 0} → Option A → Bool
-is_some none = false
-is_some (some a) = true
-
--- a reading, and what to do without one
-abbrev pub on_some : {A B : Type 0} → Option A → B → (A → B) → B
-on_some none b f = b
-on_some (some a) b f = f a
 
 -- a row of a block, where i rows stand before it: of the entities; of the groups, each one set and at most 8; of the calls
 abbrev pub row_good : Block → ℕ → List ℕ → Bool
@@ -85,33 +81,29 @@ is_last Block.Groups = false
 is_last (Block.Calls cs) = true
 
 module _ (b : Block) where
-  -- The first bad line of a block's rows, or 0. The next line has number n, and i rows stand before it
-  unfoldable pub rows_bad : ℕ → ℕ → Lines → ℕ
-  rows_bad n i done = cond (is_last b) 0 n
-  rows_bad n i cut = n
+  -- The first bad line of a block's rows. The next line has number n, and i rows stand before it
+  unfoldable pub rows_bad : ℕ → ℕ → Lines → Option ℕ
+  rows_bad n i done = cond (is_last b) None (Some n)
+  rows_bad n i cut = Some n
   rows_bad n i (line l ls) =
-      cond (not (is_last b) && eqb (length l) 0) 0 (cond (row_good b i l) (rows_bad (n + 1) (i + 1) ls) n)
+      cond (not (is_last b) && eqb (length l) 0) None (cond (row_good b i l) (rows_bad (n + 1) (i + 1) ls) (Some n))
 
-  -- The first bad line of a block, or 0: its line of names, which are the block's or not, and then its rows
-  unfoldable pub block_bad : Bool → List ℕ → Place → ℕ
+  -- The first bad line of a block: its line of names, which are the block's or not, and then its rows
+  unfoldable pub block_bad : Bool → List ℕ → Place → Option ℕ
   block_bad named text p =
-      cond (ltb (line_end text p.at) (length text) && named) (rows_bad (p.line + 1) 0 (rows_at text p)) p.line
+      cond (ltb (line_end text p.at) (length text) && named) (rows_bad (p.line + 1) 0 (rows_at text p)) (Some p.line)
 
 -- each block, its columns being those of its own line of names
 module _ (text : List ℕ) where
-  unfoldable pub entities_bad : Place → ℕ
+  unfoldable pub entities_bad : Place → Option ℕ
   entities_bad p = block_bad (Block.Entities (entity_columns (names_at text p))) (names_once entity_names (names_at text p)) text p
 
-  unfoldable pub groups_bad : Place → ℕ
+  unfoldable pub groups_bad : Place → Option ℕ
   groups_bad p = block_bad Block.Groups (names_once group_names (names_at text p)) text p
 
-  unfoldable pub calls_bad : Place → ℕ
+  unfoldable pub calls_bad : Place → Option ℕ
   calls_bad p = block_bad (Block.Calls (call_columns (names_at text p))) (names_once call_names (names_at text p)) text p
 
--- the first number that is not 0
-unfoldable pub or_else : ℕ → ℕ → ℕ
-or_else a b = cond (eqb a 0) b a
-
--- the first bad line of a text, or 0
-unfoldable pub bad_line : List ℕ → ℕ
-bad_line text = or_else (entities_bad text start) (or_else (groups_bad text (groups_at text)) (calls_bad text (calls_at text)))
+-- the first bad line of a text
+unfoldable pub bad_line : List ℕ → Option ℕ
+bad_line text = option_or (option_or (entities_bad text start) (groups_bad text (groups_at text))) (calls_bad text (calls_at text))

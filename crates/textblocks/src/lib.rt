@@ -1,14 +1,15 @@
 // The blocks of a text: where each stands, and the first line that does not have the form.
 #![tactic(auto)]
 
-ghost use Rattle.std.specs.Prelude.{◌≡◌, ◌+◌, ◌≤◌, length, drop};
+ghost use Rattle.std.specs.Prelude.{◌≡◌, ◌-◌, length, drop};
+ghost use Rattle.std.specs.Iterator.{at_most};
+ghost use Rattle.std.specs.Option.{option_map, option_or};
 ghost use Rattle.text.specs.Lines.{lines_of, fields_in};
-ghost use Rattle.textblocks.specs.Blocks.{Inside, past_empty, groups_at, calls_at, names_at, row_good, is_header, is_last, rows_bad, block_bad, or_else, bad_line};
+ghost use Rattle.textblocks.specs.Blocks.{Inside, Steps, start, past_empty, groups_at, calls_at, names_at, row_good, is_header, is_last, rows_bad, block_bad, bad_line};
 ghost use Rattle.textblocks.specs.CallsIn.{call_columns_in};
 
-use callrows::{CallColumns, CallRead};
-use rows::{EntityColumns, Placed};
-use values::Tags;
+use callrows::CallColumns;
+use rows::EntityColumns;
 
 // A place in a text, and the number of the line there.
 #[derive(Clone, Copy)]
@@ -25,55 +26,85 @@ pub enum Block {
     Calls(CallColumns),
 }
 
-// The place past the next empty line.
-fn past_empty(text: &[u8], from: Place) -> Place
-    requires { Inside text.now from }
-    ensures { (result ≡ past_empty text.now from) × Inside text.now result }
-{
-    let mut at = from.at;
-    let mut line = from.line;
-    loop {
-        let end = text::line_end(text, at);
-        if text.len() <= end {
-            return Place { at: at, line: line };
+// A text from the line at a place on. As an iterator it gives the whole lines, each with its number.
+#[derive(Clone, Copy)]
+pub struct Rest<'a> {
+    pub text: &'a [u8],
+    pub place: Place,
+    ghost inside: { Inside text.now place },
+}
+
+impl<'a> Iterator for Rest<'a> {
+    type Item = (usize, &'a [u8]);
+
+    ghost next_gives = { λ s r t. (t.text.now ≡ s.text.now) × Steps s.text.now s.place (option_map (λ x. (x.0, x.1.now)) r) t.place };
+
+    ghost remaining = { λ s. at_most (length s.text.now - s.place.at) };
+
+    fn next(&mut self) -> Option<(usize, &'a [u8])> {
+        let Place { at, line } = self.place;
+        let end = text::line_end(self.text, at);
+        if self.text.len() <= end {
+            return None;
         }
-        if end <= at {
-            return Place {
-                at: end + 1,
-                line: line + 1,
-            };
-        }
-        at = end + 1;
-        line += 1;
+        self.place = Place {
+            at: end + 1,
+            line: line + 1,
+        };
+        Some((line, &self.text[at..end]))
     }
 }
 
-fn groups_place(text: &[u8]) -> Place
-    ensures { (result ≡ groups_at text.now) × Inside text.now result }
-{
-    past_empty(text, Place { at: 0, line: 1 })
+impl<'a> Rest<'a> {
+    // All of a text.
+    pub fn all(text: &'a [u8]) -> Self
+        ensures { (result.text.now ≡ text.now) × (result.place ≡ start) }
+    {
+        Rest {
+            text,
+            place: Place { at: 0, line: 1 },
+        }
+    }
+
+    // What is left past the next empty line.
+    fn past_empty(mut self) -> Self
+        ensures { (result.text.now ≡ self.entry.text.now) × (result.place ≡ past_empty self.entry.text.now self.entry.place) }
+    {
+        while let Some((_, row)) = self.next() {
+            if row.is_empty() {
+                break;
+            }
+        }
+        self
+    }
 }
 
-fn calls_place(text: &[u8]) -> Place
-    ensures { (result ≡ calls_at text.now) × Inside text.now result }
+// A text from the line of names of the groups on.
+pub fn groups(text: &[u8]) -> Rest<'_>
+    ensures { (result.text.now ≡ text.now) × (result.place ≡ groups_at text.now) }
 {
-    past_empty(text, groups_place(text))
+    Rest::all(text).past_empty()
+}
+
+// A text from the line of names of the calls on.
+fn calls(text: &[u8]) -> Rest<'_>
+    ensures { (result.text.now ≡ text.now) × (result.place ≡ calls_at text.now) }
+{
+    groups(text).past_empty()
 }
 
 // The place of the line of names of the groups.
 pub fn groups_at(text: &[u8]) -> usize
     ensures { result ≡ (groups_at text.now).at }
 {
-    let p = groups_place(text);
-    p.at
+    groups(text).place.at
 }
 
 // The place of the line of names of the calls.
 pub fn calls_at(text: &[u8]) -> usize
     ensures { result ≡ (calls_at text.now).at }
 {
-    let p = calls_place(text);
-    p.at
+    calls(text).place.at
 }
 
 // The columns of the calls of a text.
@@ -88,29 +119,9 @@ fn row_good(block: Block, i: usize, row: &[u8]) -> bool
     ensures { result ≡ row_good block i row.now }
 {
     match block {
-        Block::Entities(columns) => {
-            let r = rows::entity_row(columns, row);
-            let placed = r.placed;
-            match placed {
-                Placed::At(k, e) => true,
-                Placed::Bad => false,
-            }
-        }
-        Block::Groups => {
-            let set = values::hex_set(row);
-            match set {
-                Tags::Set(l) => i < 8,
-                Tags::Bad => false,
-            }
-        }
-        Block::Calls(columns) => {
-            let r = callrows::call_row(columns, row);
-            let read = r.read;
-            match read {
-                CallRead::Call(c) => true,
-                CallRead::Bad => false,
-            }
-        }
+        Block::Entities(columns) => rows::entity_row(columns, row).is_some(),
+        Block::Groups => values::hex_set(row).is_some() && i < 8,
+        Block::Calls(columns) => callrows::call_row(columns, row).is_some(),
     }
 }
 
@@ -119,85 +130,58 @@ fn is_header(block: Block, line: &[u8]) -> bool
     ensures { result ≡ is_header block (fields_in line.now) }
 {
     match block {
-        Block::Entities(columns) => rows::is_entity_header(line),
+        Block::Entities(_) => rows::is_entity_header(line),
         Block::Groups => rows::is_group_header(line),
-        Block::Calls(columns) => callrows::is_call_header(line),
+        Block::Calls(_) => callrows::is_call_header(line),
     }
 }
 
+// Whether a block ends with the text, and not with an empty line.
 fn is_last(block: Block) -> bool
     ensures { result ≡ is_last block }
 {
-    match block {
-        Block::Entities(columns) => false,
-        Block::Groups => false,
-        Block::Calls(columns) => true,
-    }
+    matches!(block, Block::Calls(_))
 }
 
-// The first bad line of the rows of a block, or 0.
-fn rows_bad(text: &[u8], block: Block, from: usize, first: usize) -> usize
-    requires { (from ≤ length text.now) × (first ≤ from + 1) }
-    ensures { result ≡ rows_bad block first 0 (lines_of (drop from text.now)) }
+// The first bad line of the rows of a block.
+fn rows_bad(mut rows: Rest<'_>, block: Block) -> Option<usize>
+    ensures { result ≡ rows_bad block rows.entry.place.line 0 (lines_of (drop rows.entry.place.at rows.entry.text.now)) }
 {
     let last = is_last(block);
-    let mut at = from;
-    let mut line = first;
-    let mut i: usize = 0;
-    loop {
-        let end = text::line_end(text, at);
-        if text.len() <= end {
-            if last & (text.len() <= at) {
-                return 0;
-            }
-            return line;
+    let first = rows.place.line;
+    while let Some((line, row)) = rows.next() {
+        if !last && row.is_empty() {
+            return None;
         }
-        if !last & (end <= at) {
-            return 0;
+        if !row_good(block, line - first, row) {
+            return Some(line);
         }
-        if !row_good(block, i, &text[at..end]) {
-            return line;
-        }
-        at = end + 1;
-        line += 1;
-        i += 1;
+    }
+    if last && rows.text.len() <= rows.place.at {
+        None
+    } else {
+        Some(rows.place.line)
     }
 }
 
-// The first bad line of a block at a place, or 0: its names, and then its rows.
-fn block_bad(text: &[u8], block: Block, p: Place) -> usize
-    requires { Inside text.now p }
-    ensures { result ≡ block_bad block (is_header block (names_at text.now p)) text.now p }
+// The first bad line of a block: its names, and then its rows.
+fn block_bad(mut rows: Rest<'_>, block: Block) -> Option<usize>
+    ensures { let text = rows.entry.text.now in let p = rows.entry.place in result ≡ block_bad block (is_header block (names_at text p)) text p }
 {
-    let at = p.at;
-    let end = text::line_end(text, at);
-    if text.len() <= end {
-        return p.line;
+    match rows.next() {
+        Some((_, names)) if is_header(block, names) => rows_bad(rows, block),
+        Some((line, _)) => Some(line),
+        None => Some(rows.place.line),
     }
-    if !is_header(block, text::line_at(text, at)) {
-        return p.line;
-    }
-    rows_bad(text, block, end + 1, p.line + 1)
 }
 
-// The first of two numbers that is not 0, or 0.
-fn or_else(a: usize, b: usize) -> usize
-    ensures { result ≡ or_else a b }
-{
-    if a == 0 { b } else { a }
-}
-
-// The first bad line of a text, or 0.
-pub fn bad_line(text: &[u8]) -> usize
+// The first bad line of a text.
+pub fn bad_line(text: &[u8]) -> Option<usize>
     ensures { result ≡ bad_line text.now }
 {
-    let entities = Block::Entities(rows::entity_columns(text::line_at(text, 0)));
-    let calls = Block::Calls(call_columns_in(text));
-    or_else(
-        block_bad(text, entities, Place { at: 0, line: 1 }),
-        or_else(
-            block_bad(text, Block::Groups, groups_place(text)),
-            block_bad(text, calls, calls_place(text)),
-        ),
-    )
+    let columns = rows::entity_columns(text::line_at(text, 0));
+    let entities = block_bad(Rest::all(text), Block::Entities(columns));
+    let groups = block_bad(groups(text), Block::Groups);
+    let calls = block_bad(calls(text), Block::Calls(call_columns_in(text)));
+    entities.or(groups).or(calls)
 }

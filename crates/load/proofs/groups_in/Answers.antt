@@ -1,9 +1,6 @@
-use Prim.Native.Nat.{ℕ}
-use mathlib.Core.Path.{ap, ◌∙◌}
-use mathlib.Core.List.{[]}
-use lib.ListN.{drop}
-use Rattle.text.specs.Lines.{lines_of, next_line}
+use Rattle.std.proofs.Common.{◌∙◌, ap, []}
 use Rattle.load.specs.Tables.{groups_from, empty_with, groups_in}
+use Rattle.load.proofs.Rows.{behind, groups_over}
 use Rattle.load.proofs.groups_in.Goals as goal
 
 -- `load::groups_in` meets its contract. Assumes nothing.
@@ -11,4 +8,6 @@ use Rattle.load.proofs.groups_in.Goals as goal
 pub returns : goal.returns
 unfolding groups_in
 returns c =
-    let text = c.args.text.now in c.group_rows.ensures ∙ ap (λ (n : ℕ). empty_with (groups_from [] (lines_of (drop n text)))) (c.next_line.ensures ∙ ap (next_line text) c.groups_at.ensures)
+    let r = c.groups-rows.result in let q = c.next.new.self in let k = c.next.ensures.steps in
+    c.group_rows.ensures ∙ rw k.0 (ap empty_with (behind r.text.now r.place q.place r.inside (λ n ls. groups_from [] ls) [] (λ n ls h. groups_over [] ls h) _ k.1)
+    ∙ rw (c.groups-rows.ensures.0, c.groups-rows.ensures.1))

@@ -1,42 +1,21 @@
-use Prim.Native.Nat.{ℕ, ◌<◌, ◌≤◌}
-use mathlib.Core.Path.{◌≡◌, sym, ap, ◌∙◌}
-use mathlib.Core.List.{List}
-use native.Mathlib.Omega.{arith}
-use lib.ListN.{length}
-use Rattle.text.specs.Lines.{line_end, fields_in}
-use Rattle.text.proofs.Laws.{line_ends}
-use Rattle.textblocks.specs.Blocks.{is_header, names_at}
-use Rattle.textblocks.proofs.Laws.{next_is, block_none, block_other, block_names}
+use Rattle.std.proofs.Common.{◌∙◌, sym, ap}
+use Rattle.textblocks.specs.declared.Place.{Place}
+use Rattle.textblocks.proofs.Laws.{block_none, block_other, block_rows}
 use Rattle.textblocks.proofs.block_bad.Goals as goal
-use Rattle.textblocks.proofs.block_bad.Goals.{After-is_header}
 
 -- `textblocks::block_bad` meets its contract. Assumes nothing.
 
-module _ (c : After-is_header) where
-  abbrev text : List ℕ
-  text = c.args.text.now
+pub returns-in-Some : goal.returns-in-Some
+returns-in-Some c =
+    let s = c.args.rows in let k = c.in-Some.ensures.steps in
+    c.rows_bad.ensures ∙ rw k.0 (sym (block_rows c.args.block s.text.now s.place c.next.new.self.place _ _ k.1 (sym c.is_header.ensures ∙ c.if-is_header.true)))
 
-  whole : line_end text c.args.p.at < length text
-  whole = rw c.line_end-end.ensures at c.if-text-end.false
+pub returns-in-Some-2 : goal.returns-in-Some-2
+returns-in-Some-2 c =
+    let s = c.args.rows in let k = c.in-Some.ensures.steps in
+    sym (block_other c.args.block s.text.now s.place c.next.new.self.place _ _ k.1 (sym c.is_header.ensures ∙ c.if-is_header.false))
 
-  named : c.is_header.result ≡ is_header c.args.block (names_at text c.args.p)
-  named = c.is_header.ensures ∙ ap (λ (l : List ℕ). is_header c.args.block (fields_in l)) c.line_at.ensures
-
-pub returns-then-text-end : goal.returns-then-text-end
-returns-then-text-end c =
-    let a = c.args in let h : length a.text.now ≤ line_end a.text.now a.p.at = rw c.line_end-end.ensures at c.if-text-end.true in
-    sym (block_none a.block _ a.text.now a.p h)
-
-pub returns-then-not-is_header : goal.returns-then-not-is_header
-returns-then-not-is_header c =
-    let a = c.args in sym (block_other a.block _ a.text.now a.p (whole (goal.at.returns-then-not-is_header c).After-is_header) (sym (named (goal.at.returns-then-not-is_header c).After-is_header) ∙ c.if-not-is_header.true))
-
-pub rows_bad-requires : goal.rows_bad-requires
-rows_bad-requires c =
-    let e = line_ends c.args.text.now c.args.p.at c.line_end-end.result c.requires.0 c.line_end-end.ensures in
-    (omega arith, omega arith)
-
-pub returns : goal.returns
-returns c =
-    let a = c.args in let e = c.line_end-end in c.rows_bad.ensures ∙ rw (next_is a.text.now a.p.at e.result e.ensures c.if-text-end.false)
-    (sym (block_names a.block _ a.text.now a.p (whole (goal.at.returns c).After-is_header) (sym (named (goal.at.returns c).After-is_header) ∙ c.if-not-is_header.false)))
+pub returns-in-None : goal.returns-in-None
+returns-in-None c =
+    let s = c.args.rows in let k = c.in-None.ensures.steps in
+    rw (ap (λ (p : Place). p.line) k.1.1) (sym (block_none c.args.block _ s.text.now s.place c.next.new.self.place k.1))
