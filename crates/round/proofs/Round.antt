@@ -10,16 +10,16 @@ use native.Mathlib.Nat.{suc-mul}
 use native.Mathlib.Omega.{arith}
 use lib.Dec.{eqb, ltb}
 use lib.ListN.{length, drop, length-take}
-use borrow.Author.Tests.{eqb-true, eqb-false, ltb-true, ltb-false, lt-ltb, le-ltb}
+use borrow.Author.Tests.{eqb-true, ltb-true, ltb-false, lt-ltb, le-ltb}
 use Rattle.rules.specs.Calls.{Call}
 use Rattle.rules.specs.Refusals.{step}
 use Rattle.rules.specs.Runs.{final, trace}
-use Rattle.rules.proofs.Facts.{and_left, either}
+use Rattle.rules.proofs.Facts.{either}
 use Rattle.label.specs.Words.{words}
 use Rattle.monitor.specs.declared.Table.{Table}
 use Rattle.monitor.specs.Table.{hub}
 use Rattle.text.specs.Bytes.{index_of}
-use Rattle.text.specs.Lines.{Lines, lines_of, line_end, line_at, ahead, fields_in, field_at}
+use Rattle.text.specs.Lines.{Lines, lines_of, line_end, line_at, ahead, fields_in}
 use Rattle.text.proofs.Laws.{line_ends, line_here, lines_end, next_whole, next_later}
 use Rattle.callrows.specs.Calls.{CallSaid, call_in, call_of, as_call_row}
 use Rattle.callrows.specs.declared.CallColumns.{CallColumns}
@@ -129,64 +129,6 @@ rows_none b named text p e = go (ltb (line_end text p.at) (length text) && named
 only_accepted : (b : Bool) (f : Fault) (v : Verdict) → cond b (Err f) v ≡ Ok tt → b ≡ false
 only_accepted true f v e = cc
 only_accepted false f v e = refl
-
--- the rows of an accepted text
-
--- the columns of the calls
-abbrev cols_of : List ℕ → CallColumns
-cols_of text = call_columns_in text
-
--- whole rows from a place to the text's end, each a call
-data Rows (text : List ℕ) : ℕ → Type 0 where
-  end : {at : ℕ} → length text ≤ at → Rows text at
-  row : {at : ℕ} (c : CallSaid) → at < length text → line_end text at < length text → call_of (cols_of text) (fields_in (line_at text at)) ≡ Some c
-      → Rows text (line_end text at + 1) → Rows text at
-
-good_some : (o : Option CallSaid) → is_some o ≡ true → (c : CallSaid) × (o ≡ Some c)
-good_some None e = cc
-good_some (Some c) e = (c, refl)
-
-end_later : (text : List ℕ) (at : ℕ) → at ≤ line_end text at
-unfolding line_end
-end_later text at = omega arith
-
-rows_are : (text : List ℕ) (k at n i : ℕ) → length text ≤ at + k → 0 < n → rows_bad (Block.Calls (cols_of text)) n i (lines_of (drop at text)) ≡ 0 → Rows text at
-rows_are text zero at n i m p b = end {at = at} (omega arith)
-rows_are text (suc k) at n i m p b =
-    let B = Block.Calls (cols_of text) in
-    either (ltb at (length text))
-    (λ f. let l = ltb-true at (length text) f in
-    either (ltb (line_end text at) (length text))
-    (λ f. let w = ltb-true (line_end text at) (length text) f in
-    let here = (line_here text at (line_end text at) refl (omega arith) w).is in
-    either (row_good B i (line_at text at))
-    (λ g. let s = good_some (call_of (cols_of text) (fields_in (line_at text at))) g in
-    row s.0 l w s.1 (rows_are text k (line_end text at + 1) (n + 1) (i + 1) (omega (arith, end_later text at)) (omega arith) (sym (rows_step B n i here _ refl refl g) ∙ b)))
-    (λ g. let q = sym (rows-bad B n i here _ refl refl g) ∙ b in absurd (omega arith)))
-    (λ f. let c = (line_ends text at (line_end text at) (omega arith) refl).last (ltb-false (line_end text at) (length text) f) l in
-    let q = sym (rows_cut B n i c) ∙ b in
-    absurd (omega arith)))
-    (λ f. end (ltb-false at (length text) f))
-
-else_none : (a b : ℕ) → or_else a b ≡ 0 → b ≡ 0
-unfolding or_else
-else_none a b e = either (eqb a 0) (λ f. rw f at e) (λ f. absurd (eqb-false a 0 f (rw f at e)))
-
-rows_none : (b : Block) (named : Bool) (text : List ℕ) (p : Place) → 0 < p.line → block_bad b named text p ≡ 0 → rows_bad b (p.line + 1) 0 (rows_at text p) ≡ 0
-unfolding block_bad
-rows_none b named text p h e = go (ltb (line_end text p.at) (length text) && named) e
-  where
-    go : (t : Bool) → cond t (rows_bad b (p.line + 1) 0 (rows_at text p)) p.line ≡ 0 → rows_bad b (p.line + 1) 0 (rows_at text p) ≡ 0
-    go true q = q
-    go false q = absurd (omega arith)
-
-calls-line-number : (text : List ℕ) → 0 < (calls_at text).line
-unfolding calls_at groups_at past_empty start
-calls-line-number text = omega arith
-
-only_accepted : (b : Bool) (v : Verdict) → cond b (Refused 14 0) v ≡ Accepted → b ≡ false
-only_accepted true v e = cc
-only_accepted false v e = refl
 
 -- the rows of an accepted text, which is not too long
 module _ (text : List ℕ) (e : verdict_of text ≡ Ok tt) where
