@@ -4,7 +4,6 @@
 ghost use Rattle.std.specs.Prelude.{◌≡◌, IfSome};
 ghost use Rattle.load.specs.Load.{load_of};
 
-use load::Verdict;
 use monitor::Table;
 
 // A text that is not refused, and the table that it loads into.
@@ -16,7 +15,7 @@ pub struct Accepted<'a> {
 
 // Reads a text into a buffer, as much of it as the buffer takes. None where there is no text to go on with, which is then said.
 pub fn read_text<'a>(rt: &HostRuntime, buf: &'a mut [u8]) -> Option<Accepted<'a>>
-    ensures verdict { IfSome result (λ r. (load_of r.text.now).verdict ≡ Verdict.Accepted) }
+    ensures verdict { IfSome result (λ r. (load_of r.text.now).verdict ≡ Ok tt) }
     ensures table { IfSome result (λ r. r.table ≡ (load_of r.text.now).table) }
 {
     let Ok(n) = stdio::fill(&mut rt.stdin(), buf) else {
@@ -25,8 +24,9 @@ pub fn read_text<'a>(rt: &HostRuntime, buf: &'a mut [u8]) -> Option<Accepted<'a>
     };
     let text = handing::front(buf, n);
     let loaded = load::load(text);
-    if let Verdict::Refused(number, line) = loaded.verdict {
-        let _said = stdio::write(rt, &print::refused_line(number, line));
+    if let Err(fault) = loaded.verdict {
+        let line = print::refused_line(fault.refusal.number(), fault.line);
+        let _said = stdio::write(rt, &line);
         return None;
     }
     Some(Accepted {

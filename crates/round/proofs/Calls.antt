@@ -2,7 +2,7 @@
 -- Assumes nothing.
 use mathlib.Core.Path.{◌≡◌, refl, ap, ◌∙◌}
 use mathlib.Core.List.{List}
-use mathlib.Core.Option.{some}
+use Rattle.std.specs.Prelude.{Option, None, Some}
 use Prim.Native.Nat.{ℕ, ◌≤◌}
 use native.Mathlib.Omega.{arith}
 use lib.ListN.{length, get_or, take, length-replicate}
@@ -22,10 +22,9 @@ use Rattle.monitor.specs.Table.{hub}
 use Rattle.monitor.specs.Calls.{reply, buffer_after}
 use Rattle.values.proofs.Laws.{take-bytes}
 use Rattle.callrows.specs.Calls.{show_buffer, CallSaid, call_in, as_call_row}
-use Rattle.callrows.specs.declared.CallRead.{CallRead}
 use Rattle.callrows.specs.declared.CallRow.{CallRow}
 use Rattle.round.specs.declared.Played.{Played}
-use Rattle.round.specs.Played.{Making, IsShort, bytes_shown, made_of, performed, as_played, played_by, played}
+use Rattle.round.specs.Played.{Making, IsShort, bytes_shown, made_of, performed, as_played, played}
 
 -- ---- what the code makes of a reply and of the buffer
 
@@ -55,7 +54,7 @@ module _ (t : Table) where
 
   -- ---- the call of a line
 
-  pub played_is : (m : Making) (q : CallSaid) → played m t (as_call_row (some q)) ≡ (made_of m t (call_in q), step hub t (call_in q))
+  pub played_is : (m : Making) (q : CallSaid) → played m t (Some (as_call_row q)) ≡ (made_of m t (call_in q), step hub t (call_in q))
   unfolding performed
   played_is m q = ap (performed m t q.call) (take-bytes q.bytes)
 
@@ -81,9 +80,6 @@ module _ (t : Table) (m : Making) (s : IsShort m) where
       let a = answer hub t k in
       s a.entry a.part (entry_length words_order hub t k) (omega (arith, (parts_fit hub).call_part t k, lent-most c bytes))
 
-  pub piece_most : (row : CallRow) → length (played m t row).0 ≤ m.most
-  piece_most row = go row.read
-    where
-      go : (r : CallRead) → length (played_by m t r (take row.len row.bytes)).0 ≤ m.most
-      go (CallRead.Call c) = performed-most c (take row.len row.bytes)
-      go CallRead.Bad = omega arith
+  pub piece_most : (row : Option CallRow) → length (played m t row).0 ≤ m.most
+  piece_most None = omega arith
+  piece_most (Some row) = performed-most row.call (take row.put.len row.put.bytes)

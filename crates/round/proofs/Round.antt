@@ -3,32 +3,31 @@
 use mathlib.Core.Path.{◌≡◌, refl, sym, ap, ap₂, subst, ◌∙◌}
 use mathlib.Core.Bool.{Bool, true, false, cond, ◌&&◌}
 use mathlib.Core.List.{List, [], ◌∷◌, ◌++◌, append-nil}
-use mathlib.Core.Option.{Option, none, some}
+use Rattle.std.specs.Prelude.{Option, None, Some, Ok, Err, is_some}
+use Rattle.std.specs.Option.{option_or, option_map}
 use Prim.Native.Nat.{ℕ, zero, suc, ◌+◌, ◌*◌, ◌-◌, ◌≤◌, ◌<◌}
 use native.Mathlib.Nat.{suc-mul}
 use native.Mathlib.Omega.{arith}
 use lib.Dec.{eqb, ltb}
 use lib.ListN.{length, drop, length-take}
-use borrow.Author.Tests.{eqb-true, eqb-false, ltb-true, ltb-false, lt-ltb, le-ltb}
+use borrow.Author.Tests.{eqb-true, ltb-true, ltb-false, lt-ltb, le-ltb}
 use Rattle.rules.specs.Calls.{Call}
 use Rattle.rules.specs.Refusals.{step}
 use Rattle.rules.specs.Runs.{final, trace}
-use Rattle.rules.proofs.Facts.{and_left, either}
+use Rattle.rules.proofs.Facts.{either}
 use Rattle.label.specs.Words.{words}
 use Rattle.monitor.specs.declared.Table.{Table}
 use Rattle.monitor.specs.Table.{hub}
 use Rattle.text.specs.Bytes.{index_of}
-use Rattle.text.specs.Lines.{Lines, lines_of, line_end, line_at, ahead, fields_in, field_at}
+use Rattle.text.specs.Lines.{Lines, lines_of, line_end, line_at, ahead, fields_in}
 use Rattle.text.proofs.Laws.{line_ends, line_here, lines_end, next_whole, next_later}
-use Rattle.callrows.specs.Calls.{CallSaid, call_named, uses_of, number_read, value_in, fits, fields_fit, call_from, call_by, call_in, call_of, as_call_row}
+use Rattle.callrows.specs.Calls.{CallSaid, call_in, call_of, as_call_row}
 use Rattle.callrows.specs.declared.CallColumns.{CallColumns}
-use Rattle.callrows.specs.declared.CallRead.{CallRead}
 use Rattle.textblocks.specs.declared.Place.{Place}
-use Rattle.textblocks.specs.Blocks.{start, past_empty, groups_at, calls_at, rows_at, is_some, row_good, rows_bad, block_bad, calls_bad, or_else, bad_line}
+use Rattle.textblocks.specs.Blocks.{calls_at, rows_at, row_good, rows_bad, block_bad, calls_bad, bad_line}
 use Rattle.textblocks.specs.declared.Block.{Block}
-use Rattle.load.specs.declared.Verdict.{Verdict}
-use Rattle.load.specs.declared.Verdict.TheVariants.{Accepted, Refused}
-use Rattle.load.specs.Load.{verdict_of, load_of}
+use Rattle.load.specs.declared.Fault.{Fault}
+use Rattle.load.specs.Load.{Verdict, verdict_of, load_of}
 use Rattle.textblocks.specs.CallsIn.{calls_from, call_columns_in, calls_of, call_at}
 use Rattle.load.proofs.Accepted.{bad_none}
 use Rattle.textblocks.proofs.Laws.{rows_cut, rows-bad, rows_step}
@@ -64,29 +63,15 @@ fields_few (b ∷ bs) = go (fields_few bs) (eqb b 32)
     go h true = omega arith
     go h false = omega (arith, ahead_long b (fields_in bs))
 
-only_some : (v : Bool) (o : Option CallSaid) (c : CallSaid) → cond v o none ≡ some c → v ≡ true
+only_some : (v : Bool) (o : Option CallSaid) (c : CallSaid) → cond v o None ≡ Some c → v ≡ true
 only_some true o c e = refl
 only_some false o c e = cc
 
-six_of : (six : Bool) (name caller other set tag bytes : List ℕ) (r : CallRead) (c : CallSaid) → call_from six name caller other set tag bytes r ≡ some c → six ≡ true
-six_of six name caller other set tag bytes CallRead.Bad c e = cc
-six_of six name caller other set tag bytes (CallRead.Call k) c e =
-    let f = only_some (fields_fit six name caller other set tag bytes (uses_of k)) _ c e in
-    and_left six _ (and_left (six && fits true (number_read caller) caller) _
-    (and_left ((six && fits true (number_read caller) caller) && fits (uses_of k).other (number_read other) other) _
-    (and_left (((six && fits true (number_read caller) caller) && fits (uses_of k).other (number_read other) other) && fits (uses_of k).set (number_read set) set) _ f)))
+six_fields : (cs : CallColumns) (fs : List (List ℕ)) (c : CallSaid) → call_of cs fs ≡ Some c → length fs ≡ 6
+unfolding call_of
+six_fields cs fs c e = eqb-true (length fs) 6 (only_some (eqb (length fs) 6) _ c e)
 
-six_fields : (cs : CallColumns) (fs : List (List ℕ)) (c : CallSaid) → call_of cs fs ≡ some c → length fs ≡ 6
-unfolding call_of call_by
-six_fields cs fs c e =
-    let j = number_read (field_at fs cs.other) in
-    let n = number_read (field_at fs cs.set) in
-    let p = number_read (field_at fs cs.tag) in
-    let r = call_named (field_at fs cs.call) (value_in (number_read (field_at fs cs.caller))) (value_in j) (value_in n) (value_in p) in
-    eqb-true (length fs) 6 (six_of (eqb (length fs) 6) (field_at fs cs.call) (field_at fs cs.caller) (field_at fs cs.other) (field_at fs cs.set)
-    (field_at fs cs.tag) (field_at fs cs.bytes) r c e)
-
-row_long : (text : List ℕ) (at : ℕ) (cs : CallColumns) (c : CallSaid) → call_of cs (fields_in (line_at text at)) ≡ some c → at + 5 ≤ line_end text at
+row_long : (text : List ℕ) (at : ℕ) (cs : CallColumns) (c : CallSaid) → call_of cs (fields_in (line_at text at)) ≡ Some c → at + 5 ≤ line_end text at
 unfolding line_end line_at
 row_long text at cs c e =
     omega (arith, six_fields cs (fields_in (line_at text at)) c e, fields_few (line_at text at), length-take (index_of 10 (drop at text)) (drop at text))
@@ -100,20 +85,20 @@ cols_of text = call_columns_in text
 -- whole rows from a place to the text's end, each a call
 data Rows (text : List ℕ) : ℕ → Type 0 where
   end : {at : ℕ} → length text ≤ at → Rows text at
-  row : {at : ℕ} (c : CallSaid) → at < length text → line_end text at < length text → call_of (cols_of text) (fields_in (line_at text at)) ≡ some c
+  row : {at : ℕ} (c : CallSaid) → at < length text → line_end text at < length text → call_of (cols_of text) (fields_in (line_at text at)) ≡ Some c
       → Rows text (line_end text at + 1) → Rows text at
 
-good_some : (o : Option CallSaid) → is_some o ≡ true → (c : CallSaid) × (o ≡ some c)
-good_some none e = let z : ◌≡◌ {A = ℕ} 0 1 = cc in absurd (omega arith)
-good_some (some c) e = (c, refl)
+good_some : (o : Option CallSaid) → is_some o ≡ true → (c : CallSaid) × (o ≡ Some c)
+good_some None e = cc
+good_some (Some c) e = (c, refl)
 
 end_later : (text : List ℕ) (at : ℕ) → at ≤ line_end text at
 unfolding line_end
 end_later text at = omega arith
 
-rows_are : (text : List ℕ) (k at n i : ℕ) → length text ≤ at + k → 0 < n → rows_bad (Block.Calls (cols_of text)) n i (lines_of (drop at text)) ≡ 0 → Rows text at
-rows_are text zero at n i m p b = end {at = at} (omega arith)
-rows_are text (suc k) at n i m p b =
+rows_are : (text : List ℕ) (k at n i : ℕ) → length text ≤ at + k → rows_bad (Block.Calls (cols_of text)) n i (lines_of (drop at text)) ≡ None → Rows text at
+rows_are text zero at n i m b = end {at = at} (omega arith)
+rows_are text (suc k) at n i m b =
     let B = Block.Calls (cols_of text) in
     either (ltb at (length text))
     (λ f. let l = ltb-true at (length text) f in
@@ -122,44 +107,40 @@ rows_are text (suc k) at n i m p b =
     let here = (line_here text at (line_end text at) refl (omega arith) w).is in
     either (row_good B i (line_at text at))
     (λ g. let s = good_some (call_of (cols_of text) (fields_in (line_at text at))) g in
-    row s.0 l w s.1 (rows_are text k (line_end text at + 1) (n + 1) (i + 1) (omega (arith, end_later text at)) (omega arith) (sym (rows_step B n i here _ refl refl g) ∙ b)))
-    (λ g. let q = sym (rows-bad B n i here _ refl refl g) ∙ b in absurd (omega arith)))
+    row s.0 l w s.1 (rows_are text k (line_end text at + 1) (n + 1) (i + 1) (omega (arith, end_later text at)) (sym (rows_step B n i here refl g) ∙ b)))
+    (λ g. let q = sym (rows-bad B n i here refl g) ∙ b in cc))
     (λ f. let c = (line_ends text at (line_end text at) (omega arith) refl).last (ltb-false (line_end text at) (length text) f) l in
     let q = sym (rows_cut B n i c) ∙ b in
-    absurd (omega arith)))
+    cc))
     (λ f. end (ltb-false at (length text) f))
 
-else_none : (a b : ℕ) → or_else a b ≡ 0 → b ≡ 0
-unfolding or_else
-else_none a b e = either (eqb a 0) (λ f. rw f at e) (λ f. absurd (eqb-false a 0 f (rw f at e)))
+else_none : (a b : Option ℕ) → option_or a b ≡ None → b ≡ None
+else_none None b e = e
+else_none (Some n) b e = cc
 
-rows_none : (b : Block) (named : Bool) (text : List ℕ) (p : Place) → 0 < p.line → block_bad b named text p ≡ 0 → rows_bad b (p.line + 1) 0 (rows_at text p) ≡ 0
+rows_none : (b : Block) (named : Bool) (text : List ℕ) (p : Place) → block_bad b named text p ≡ None → rows_bad b (p.line + 1) 0 (rows_at text p) ≡ None
 unfolding block_bad
-rows_none b named text p h e = go (ltb (line_end text p.at) (length text) && named) e
+rows_none b named text p e = go (ltb (line_end text p.at) (length text) && named) e
   where
-    go : (t : Bool) → cond t (rows_bad b (p.line + 1) 0 (rows_at text p)) p.line ≡ 0 → rows_bad b (p.line + 1) 0 (rows_at text p) ≡ 0
+    go : (t : Bool) → cond t (rows_bad b (p.line + 1) 0 (rows_at text p)) (Some p.line) ≡ None → rows_bad b (p.line + 1) 0 (rows_at text p) ≡ None
     go true q = q
-    go false q = absurd (omega arith)
+    go false q = cc
 
-calls-line-number : (text : List ℕ) → 0 < (calls_at text).line
-unfolding calls_at groups_at past_empty start
-calls-line-number text = omega arith
-
-only_accepted : (b : Bool) (v : Verdict) → cond b (Refused 14 0) v ≡ Accepted → b ≡ false
-only_accepted true v e = cc
-only_accepted false v e = refl
+only_accepted : (b : Bool) (f : Fault) (v : Verdict) → cond b (Err f) v ≡ Ok tt → b ≡ false
+only_accepted true f v e = cc
+only_accepted false f v e = refl
 
 -- the rows of an accepted text, which is not too long
-module _ (text : List ℕ) (e : verdict_of text ≡ Accepted) where
+module _ (text : List ℕ) (e : verdict_of text ≡ Ok tt) where
   rows_of : Rows text (first_at text)
   unfolding bad_line calls_bad call_columns_in
   rows_of =
-      let q = else_none _ _ (else_none _ _ (bad_none text e)) in
-      rows_are text (length text) (first_at text) ((calls_at text).line + 1) 0 (omega arith) (omega arith) (rows_none _ _ text (calls_at text) (calls-line-number text) q)
+      let q = else_none _ _ (bad_none text e) in
+      rows_are text (length text) (first_at text) ((calls_at text).line + 1) 0 (omega arith) (rows_none _ _ text (calls_at text) q)
 
   text_most : length text ≤ 65535
   unfolding verdict_of
-  text_most = ltb-false 65535 (length text) (only_accepted (ltb 65535 (length text)) _ e)
+  text_most = ltb-false 65535 (length text) (only_accepted (ltb 65535 (length text)) _ _ e)
 
 -- ---- a buffer with room for all rows
 
@@ -177,10 +158,10 @@ module _ (text : List ℕ) (m : Making) (short : IsShort m) where
       (subst (Ran t []) (sym (none_taken (call_pieces text m) k room (at, t) (no_piece (call_pieces text m) room (at, t) (le-ltb _ _ h)))) (record { bytes = refl; table = refl; all = h }))
 
   -- a row that is a call
-  module _ (at : ℕ) (t : Table) (c : CallSaid) (w : line_end text at < length text) (e : call_of (cols_of text) (fields_in (line_at text at)) ≡ some c) where
-    call_is : call_at text (call_columns_in text) at ≡ as_call_row (some c)
+  module _ (at : ℕ) (t : Table) (c : CallSaid) (w : line_end text at < length text) (e : call_of (cols_of text) (fields_in (line_at text at)) ≡ Some c) where
+    call_is : call_at text (call_columns_in text) at ≡ Some (as_call_row c)
     unfolding call_at
-    call_is = ap as_call_row e
+    call_is = ap (option_map as_call_row) e
 
     played_here : played m t (call_at text (call_columns_in text) at) ≡ (made_of m t (call_in c), step hub t (call_in c))
     played_here = ap (played m t) call_is ∙ played_is t m c
@@ -213,7 +194,7 @@ module _ (text : List ℕ) (m : Making) (short : IsShort m) where
       ∙ ap (λ (u : ℕ × Table). onto (P.piece (at, t)) (chunk_from P k (room - length (P.piece (at, t))) u)) (next_here at t c w e)))
       (one_ran t (call_in c) _ (P.piece (at, t)) _ (ap (λ (x : List ℕ × Table). x.0) (played_here at t c w e)) rest))
 
-  calls_ran : (q room : ℕ) (t : Table) → verdict_of text ≡ Accepted → length text ≤ 6 * q + 5 → q * m.most ≤ room
+  calls_ran : (q room : ℕ) (t : Table) → verdict_of text ≡ Ok tt → length text ≤ 6 * q + 5 → q * m.most ≤ room
       → Ran t (calls_of text) (chunk (call_pieces text m) room (first_at text, t))
   unfolding calls_of
   calls_ran q room t e f r = rows_ran (rows_of text e) (length text - first_at text) q room t (omega arith) (omega arith) r
@@ -224,7 +205,7 @@ records_run text room t e h =
     (r.bytes, r.table, r.all)
 
 -- all lines are one chunk of a buffer that is large enough
-round-runs : (text : List ℕ) → verdict_of text ≡ Accepted → round_of text ≡ trace (step hub) answer_line (load_of text).table (calls_of text)
+round-runs : (text : List ℕ) → verdict_of text ≡ Ok tt → round_of text ≡ trace (step hub) answer_line (load_of text).table (calls_of text)
 round-runs text e =
     let P = call_pieces text lines in
     let s : ℕ × Table = (first_at text, (load_of text).table) in
@@ -238,8 +219,8 @@ pub output_runs : OutputRuns
 output_runs text = go (verdict_of text) refl
   where
     go : (v : Verdict) → verdict_of text ≡ v → output_of text ≡ output_with text (trace (step hub) answer_line (load_of text).table (calls_of text))
-    go Accepted e = rw e (ap (λ (ls : List ℕ). names_line ++ ls) (round-runs text e))
-    go (Refused n l) e = rw e refl
+    go (Ok u) e = rw e (ap (λ (ls : List ℕ). names_line ++ ls) (round-runs text e))
+    go (Err f) e = rw e refl
 
 pub output_in_chunks : OutputInChunks
 output_in_chunks text room h =

@@ -1,6 +1,6 @@
 -- Document 01, 'A watering round through hubcalls': what the program does with one line of calls.
 -- Assumes nothing.
-use Rattle.std.specs.Prelude.{◌≡◌, ◌≤◌, cond, List, [], ℕ, length, take}
+use Rattle.std.specs.Prelude.{◌≡◌, ◌≤◌, cond, Option, None, Some, List, [], ℕ, length, take}
 use Rattle.rules.specs.declared.Call.{Call as Named}
 use Rattle.rules.specs.Calls.{Call, is_show}
 use Rattle.rules.specs.Refusals.{step}
@@ -9,7 +9,6 @@ use Rattle.label.specs.Calls.{call_with}
 use Rattle.label.specs.Words.{words}
 use Rattle.monitor.specs.declared.Table.{Table}
 use Rattle.monitor.specs.Table.{hub}
-use Rattle.callrows.specs.declared.CallRead.{CallRead}
 use Rattle.callrows.specs.declared.CallRow.{CallRow}
 use Rattle.callrows.specs.Calls.{show_buffer}
 use Rattle.print.specs.Lines.{call_line, line_size}
@@ -45,12 +44,9 @@ unfoldable pub performed : Making → Table → Named → List ℕ → List ℕ 
 performed m t c bytes = (made_of m t (call_with c bytes show_buffer), step hub t (call_with c bytes show_buffer))
 
 -- a row played; of one that is no call nothing is made, and the table is as it was
-abbrev pub played_by : Making → Table → CallRead → List ℕ → List ℕ × Table
-played_by m t (CallRead.Call c) bytes = performed m t c bytes
-played_by m t CallRead.Bad bytes = ([], t)
-
-abbrev pub played : Making → Table → CallRow → List ℕ × Table
-played m t row = played_by m t row.read (take row.len row.bytes)
+abbrev pub played : Making → Table → Option CallRow → List ℕ × Table
+played m t None = ([], t)
+played m t (Some row) = performed m t row.call (take row.put.len row.put.bytes)
 
 abbrev pub as_played : List ℕ × Table → Played
 as_played r = record { table = r.1; line = record { items = r.0 } }

@@ -1,6 +1,6 @@
 -- Document 01, 'A watering round through hubcalls': what is made of a text's calls, and what the programs print of it.
 -- Assumes nothing.
-use Rattle.std.specs.Prelude.{◌≡◌, List, ◌++◌, ℕ, ◌-◌, ◌≤◌, ltb, length}
+use Rattle.std.specs.Prelude.{◌≡◌, List, ◌++◌, ℕ, ◌-◌, ◌≤◌, ltb, length, Ok}
 use Rattle.rules.specs.Calls.{Call}
 use Rattle.rules.specs.Refusals.{step}
 use Rattle.rules.specs.Runs.{final, trace, records}
@@ -9,7 +9,6 @@ use Rattle.monitor.specs.declared.Table.{Table}
 use Rattle.monitor.specs.Table.{hub}
 use Rattle.text.specs.Ascii.{ascii}
 use Rattle.text.specs.Lines.{next_line}
-use Rattle.load.specs.declared.Verdict.TheVariants.{Accepted}
 use Rattle.textblocks.specs.Blocks.{calls_at}
 use Rattle.load.specs.Load.{verdict_number, verdict_line, verdict_of, on_accepted, load_of}
 use Rattle.textblocks.specs.CallsIn.{call_columns_in, calls_of, call_at}
@@ -80,7 +79,7 @@ records_room = 174752
 -- For an accepted text and every table, such a buffer takes the records of all its calls: they are those of the rules' run,
 -- the table is that after it, and no line is left
 abbrev pub RecordsRun : Type 0
-RecordsRun = (text : List ℕ) (room : ℕ) (t : Table) → verdict_of text ≡ Accepted → records_room ≤ room
+RecordsRun = (text : List ℕ) (room : ℕ) (t : Table) → verdict_of text ≡ Ok tt → records_room ≤ room
     → ((chunk (call_pieces text entries) room (first_at text, t)).0 ≡ records hub t (calls_of text))
     × ((chunk (call_pieces text entries) room (first_at text, t)).1.1 ≡ final (step hub) t (calls_of text))
     × (length text ≤ (chunk (call_pieces text entries) room (first_at text, t)).1.0)

@@ -8,10 +8,11 @@ ghost use Rattle.round.specs.Played.{Making, lines, entries, IsShort, bytes_show
 ghost use Rattle.round.specs.Round.{first_at, call_pieces, as_calls_chunk};
 ghost use Rattle.round.specs.Short.{lines_short, entries_short};
 
-use callrows::{CallRead, CallRow};
+use callrows::CallRow;
 use monitor::Table;
 use print::Line;
 use rules::Call;
+use values::Data;
 
 // What is made of the calls.
 pub trait Made {
@@ -79,12 +80,13 @@ fn bytes_shown(call: Call, moved: u8) -> usize
     }
 }
 
-// Plays a call with the first n of some bytes.
-fn performed<M: Made>(table: Table, call: Call, bytes: [u8; 255], n: usize) -> Played
-    ensures { result ≡ as_played (performed M.making table call (take n bytes)) }
+// Plays a call with the bytes put.
+fn performed<M: Made>(table: Table, call: Call, put: Data) -> Played
+    ensures { result ≡ as_played (performed M.making table call (take put.len put.bytes)) }
 {
+    let bytes = put.bytes;
     let mut buffer = [0u8; 64];
-    let reply = table.perform(call, handing::front(&bytes, n), &mut buffer);
+    let reply = table.perform(call, handing::front(&bytes, put.len), &mut buffer);
     let answer = reply.answer;
     let entry = answer.entry;
     let line = M::line(entry, buffer, bytes_shown(call, entry[4]));
@@ -95,13 +97,12 @@ fn performed<M: Made>(table: Table, call: Call, bytes: [u8; 255], n: usize) -> P
 }
 
 // Plays the call of a row; of one that is none nothing is made, and the table stays as it is.
-fn play<M: Made>(table: Table, row: CallRow) -> Played
+fn play<M: Made>(table: Table, row: Option<CallRow>) -> Played
     ensures { result ≡ as_played (played M.making table row) }
 {
-    let bytes = row.bytes;
-    match row.read {
-        CallRead::Call(call) => performed::<M>(table, call, bytes, row.len),
-        CallRead::Bad => Played {
+    match row {
+        Some(row) => performed::<M>(table, row.call, row.put),
+        None => Played {
             table,
             line: Line::new(),
         },

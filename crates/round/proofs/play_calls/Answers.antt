@@ -6,6 +6,7 @@ use lib.ListN.{length}
 use lib.Seq.{sets}
 use borrow.Author.Tests.{lt-ltb, le-ltb}
 use Rattle.std.specs.Prelude.{Option, Some}
+use Rattle.std.specs.Option.{option_map}
 use borrow.Author.Rules.{rules}
 use Rattle.monitor.specs.declared.Table.{Table}
 use Rattle.text.specs.Lines.{fields_in, line_at}
@@ -22,10 +23,10 @@ use Rattle.round.proofs.Round.{call_bounded}
 use Rattle.round.proofs.play_calls.Goals as goal
 
 -- what is played at a place
-row_is : (m : Making) (x : List ℕ) (at : ℕ) (t : Table) (cs : CallColumns) (line : List ℕ) (row : CallRow) (p : Played)
-    → cs ≡ call_columns_in x → line ≡ line_at x at → row ≡ as_call_row (call_of cs (fields_in line)) → p ≡ as_played (played m t row) → p ≡ as_played (played_at m x at t)
+row_is : (m : Making) (x : List ℕ) (at : ℕ) (t : Table) (cs : CallColumns) (line : List ℕ) (row : Option CallRow) (p : Played)
+    → cs ≡ call_columns_in x → line ≡ line_at x at → row ≡ option_map as_call_row (call_of cs (fields_in line)) → p ≡ as_played (played m t row) → p ≡ as_played (played_at m x at t)
 unfolding call_at
-row_is m x at t cs line row p a b e q = q ∙ ap (λ (r : CallRow). as_played (played m t r)) (e ∙ ap₂ (λ (c : CallColumns) (l : List ℕ). as_call_row (call_of c (fields_in l))) a b)
+row_is m x at t cs line row p a b e q = q ∙ ap (λ (r : Option CallRow). as_played (played m t r)) (e ∙ ap₂ (λ (c : CallColumns) (l : List ℕ). option_map as_call_row (call_of c (fields_in l))) a b)
 
 -- it has room where the longest has
 room_for : (m : Making) (short : IsShort m) (x : List ℕ) (at : ℕ) (t : Table) (line : List ℕ) (n len : ℕ)
