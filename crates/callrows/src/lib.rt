@@ -58,7 +58,8 @@ pub fn call_columns(line: &[u8]) -> CallColumns
     }
 }
 
-// The call of a name, by a caller, with the other's slot, the set field and the tag as far as it uses them.
+// The call of a name, by a caller, with the other's slot, the set field and the tag as far as it uses them. By `same`,
+// name by name, as `rows::kind_named`.
 #[tactic(auto, unfolding(crate::specs::Calls::call_named))]
 fn call_named(f: &[u8], i: u8, j: u8, n: u8, p: u8) -> Option<Call>
     ensures { result ≡ call_named f.now i j n p }
@@ -93,6 +94,7 @@ fn call_named(f: &[u8], i: u8, j: u8, n: u8, p: u8) -> Option<Call>
     None
 }
 
+// The fields by place, so that each call of `uses_of` takes one line, as in the specs.
 fn with_uses(other: bool, set: bool, tag: bool, bytes: bool) -> Uses
     ensures { result ≡ with_uses other set tag bytes }
 {

@@ -8,7 +8,7 @@ ghost use Rattle.values.specs.Answers.{as_data};
 
 use label::Label;
 
-// The bytes that a field of data says, the first len of some with zeros after them.
+// The bytes that a field of data says, the first len of some with zeros after them. No heap, so an array with its length.
 #[derive(Clone, Copy)]
 pub struct Data {
     pub bytes: [u8; 255],
