@@ -49,7 +49,7 @@ fn answered(t: HubTable, r: Reply) -> HubReply
     let outcome = answer.outcome;
     match outcome {
         Ok(()) => HubReply {
-            table: layout::struct_of(table),
+            table: layout::struct_of(&table),
             number: 0,
             entry,
         },
@@ -72,7 +72,7 @@ fn answered_here(t: HubTable, r: Reply) -> HubReply
     let outcome = answer.outcome;
     match outcome {
         Ok(()) => HubReply {
-            table: layout::struct_here(table),
+            table: layout::struct_here(&table),
             number: 0,
             entry,
         },
@@ -89,7 +89,7 @@ fn answered_here(t: HubTable, r: Reply) -> HubReply
 pub extern "C" fn hub_put(t: HubTable, caller: u8, bytes: &[u8]) -> HubReply
     ensures { result ≡ reply_to t (put caller bytes.now) }
 {
-    answered(t, layout::table_of(t).put(caller, bytes))
+    answered(t, layout::table_of(&t).put(caller, bytes))
 }
 
 // 2: the caller's content goes to the front of a lent buffer: as many bytes as byte 4 of the record says.
@@ -98,7 +98,7 @@ pub extern "C" fn hub_show(t: HubTable, caller: u8, out: &mut [u8]) -> HubReply
     ensures value { result ≡ reply_to t (show caller out.old) }
     ensures out_after { out.new ≡ shown_buffer (table_of t) caller out.old }
 {
-    answered_here(t, layout::table_of(t).show_into(caller, out))
+    answered_here(t, layout::table_of(&t).show_into(caller, out))
 }
 
 // 3: the caller's content replaces the other's, if flow from caller to other is allowed.
@@ -106,7 +106,7 @@ pub extern "C" fn hub_show(t: HubTable, caller: u8, out: &mut [u8]) -> HubReply
 pub extern "C" fn hub_send(t: HubTable, caller: u8, other: u8) -> HubReply
     ensures { result ≡ reply_to t (send caller other) }
 {
-    answered(t, layout::table_of(t).send(caller, other))
+    answered(t, layout::table_of(&t).send(caller, other))
 }
 
 // 4: the other's content replaces the caller's, if flow from other to caller is allowed.
@@ -114,7 +114,7 @@ pub extern "C" fn hub_send(t: HubTable, caller: u8, other: u8) -> HubReply
 pub extern "C" fn hub_fetch(t: HubTable, caller: u8, other: u8) -> HubReply
     ensures { result ≡ reply_to t (fetch caller other) }
 {
-    answered(t, layout::table_of(t).fetch(caller, other))
+    answered(t, layout::table_of(&t).fetch(caller, other))
 }
 
 // 5: a tag is added to one of the caller's two sets.
@@ -122,7 +122,7 @@ pub extern "C" fn hub_fetch(t: HubTable, caller: u8, other: u8) -> HubReply
 pub extern "C" fn hub_add(t: HubTable, caller: u8, set: u8, tag: u8) -> HubReply
     ensures { result ≡ reply_to t (add_tag caller set tag) }
 {
-    answered(t, layout::table_of(t).add_tag(caller, set, tag))
+    answered(t, layout::table_of(&t).add_tag(caller, set, tag))
 }
 
 // 6: a tag is dropped from one of the caller's two sets.
@@ -130,7 +130,7 @@ pub extern "C" fn hub_add(t: HubTable, caller: u8, set: u8, tag: u8) -> HubReply
 pub extern "C" fn hub_drop(t: HubTable, caller: u8, set: u8, tag: u8) -> HubReply
     ensures { result ≡ reply_to t (drop_tag caller set tag) }
 {
-    answered(t, layout::table_of(t).drop_tag(caller, set, tag))
+    answered(t, layout::table_of(&t).drop_tag(caller, set, tag))
 }
 
 // 7: a new entity in a free slot, with the caller's S and I.
@@ -138,7 +138,7 @@ pub extern "C" fn hub_drop(t: HubTable, caller: u8, set: u8, tag: u8) -> HubRepl
 pub extern "C" fn hub_create(t: HubTable, caller: u8, other: u8, set: u8) -> HubReply
     ensures { result ≡ reply_to t (create caller other set) }
 {
-    answered(t, layout::table_of(t).create(caller, other, set))
+    answered(t, layout::table_of(&t).create(caller, other, set))
 }
 
 // 8: the caller itself, or an item with the caller's S and I, is given up.
@@ -146,7 +146,7 @@ pub extern "C" fn hub_create(t: HubTable, caller: u8, other: u8, set: u8) -> Hub
 pub extern "C" fn hub_release(t: HubTable, caller: u8, other: u8) -> HubReply
     ensures { result ≡ reply_to t (release caller other) }
 {
-    answered(t, layout::table_of(t).release(caller, other))
+    answered(t, layout::table_of(&t).release(caller, other))
 }
 
 // 9: the other, a program, gains one right that the caller has.
@@ -154,7 +154,7 @@ pub extern "C" fn hub_release(t: HubTable, caller: u8, other: u8) -> HubReply
 pub extern "C" fn hub_hand(t: HubTable, caller: u8, other: u8, set: u8, tag: u8) -> HubReply
     ensures { result ≡ reply_to t (hand caller other set tag) }
 {
-    answered(t, layout::table_of(t).hand(caller, other, set, tag))
+    answered(t, layout::table_of(&t).hand(caller, other, set, tag))
 }
 
 // The records of a list that the caller's S covers go to the front of a lent buffer, in order. A buffer as long as the
@@ -164,7 +164,7 @@ pub extern "C" fn hub_audit(t: HubTable, caller: u8, list: &[u8], out: &mut [u8]
     ensures value { result ≡ audit_answer t caller list.now out.old }
     ensures out_after { out.new ≡ (audited (table_of t) caller list.now out.old).buffer }
 {
-    let table = layout::table_of(t);
+    let table = layout::table_of(&t);
     let n = table.audit_len(caller, list, out.len());
     let v = table.audit_into(caller, list, &mut *out);
     HubAudit {
@@ -178,7 +178,7 @@ pub extern "C" fn hub_audit(t: HubTable, caller: u8, list: &[u8], out: &mut [u8]
 pub extern "C" fn hub_empty() -> HubTable
     ensures { result ≡ struct_of empty_table }
 {
-    layout::struct_here(Table::empty())
+    layout::struct_here(&Table::empty())
 }
 
 // The table of a text. The calls of the text are read for their form and not played.
@@ -189,7 +189,7 @@ pub extern "C" fn hub_load(text: &[u8]) -> HubLoaded
     let l = load::load(text);
     let v = l.verdict;
     HubLoaded {
-        table: layout::struct_here(l.table),
+        table: layout::struct_here(&l.table),
         number: load::verdict_number(v),
         line: load::verdict_line(v),
     }

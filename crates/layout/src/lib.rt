@@ -78,15 +78,15 @@ impl From<Entity> for HubSlot {
 }
 
 // An array of what a function gives of each element. An array's own `map` was tried: it misses the stack that hub.h promises.
-fn mapped<A: Copy, B, F: Fn(A) -> B, const N: usize>(xs: [A; N], f: F) -> [B; N]
+fn mapped<A: Copy, B, F: Fn(A) -> B, const N: usize>(xs: &[A; N], f: F) -> [B; N]
     requires { F.IsAlwaysCallable f }
-    ensures { AllZip (λ x y. F.post f x y) xs result }
+    ensures { AllZip (λ x y. F.post f x y) xs.now result }
 {
     array::from_fn(
         |i| -> B
             requires below { i < N }
             requires callable { (x : A) → F.pre f x }
-            ensures { (x : A) × (x ≡ slice_index_or xs i x) × F.post f x result }
+            ensures { (x : A) × (x ≡ slice_index_or xs.entry.now i x) × F.post f x result }
         { f(xs[i]) },
     )
 }
@@ -94,54 +94,39 @@ fn mapped<A: Copy, B, F: Fn(A) -> B, const N: usize>(xs: [A; N], f: F) -> [B; N]
 // The table that a struct stands for. Made in a frame of its own, which spares stack in the calls that follow: without, tried,
 // they miss what hub.h promises.
 #[inline(never)]
-pub fn table_of(t: HubTable) -> Table
-    ensures { result ≡ table_of t }
+pub fn table_of(t: &HubTable) -> Table
+    ensures { result ≡ table_of t.now }
 {
-    let slots = t.slots;
-    let numbers = t.groups;
-    let content = t.content;
-    let entities = mapped(slots, Entity::from);
-    let groups = mapped(numbers, |bits| Label { bits });
     Table {
-        entities,
-        content,
-        groups,
+        entities: mapped(&t.slots, Entity::from),
+        content: t.content,
+        groups: mapped(&t.groups, |bits| Label { bits }),
         count: t.count,
     }
 }
 
 // The struct that stands for a table. Made in a frame of its own, as `table_of` is.
 #[inline(never)]
-pub fn struct_of(t: Table) -> HubTable
-    ensures { result ≡ struct_of t }
+pub fn struct_of(t: &Table) -> HubTable
+    ensures { result ≡ struct_of t.now }
 {
-    let entities = t.entities;
-    let labels = t.groups;
-    let content = t.content;
-    let slots = mapped(entities, HubSlot::from);
-    let groups = mapped(labels, |l| l.bits);
     HubTable {
-        slots,
-        content,
-        groups,
+        slots: mapped(&t.entities, HubSlot::from),
+        content: t.content,
+        groups: mapped(&t.groups, |l| l.bits),
         count: t.count,
     }
 }
 
 // The same with no frame of its own, for a caller whose own is small. One of the two alone, and `struct_of` calling this one,
 // miss the stack that hub.h promises: each was tried.
-pub fn struct_here(table: Table) -> HubTable
-    ensures { result ≡ struct_of table }
+pub fn struct_here(t: &Table) -> HubTable
+    ensures { result ≡ struct_of t.now }
 {
-    let held = table.entities;
-    let labels = table.groups;
-    let bytes = table.content;
-    let filled = mapped(held, HubSlot::from);
-    let numbers = mapped(labels, |l| l.bits);
     HubTable {
-        slots: filled,
-        content: bytes,
-        groups: numbers,
-        count: table.count,
+        slots: mapped(&t.entities, HubSlot::from),
+        content: t.content,
+        groups: mapped(&t.groups, |l| l.bits),
+        count: t.count,
     }
 }

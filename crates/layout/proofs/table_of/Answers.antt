@@ -10,6 +10,6 @@ pub returns : goal.returns
 unfolding table_of
 returns c =
     rw (
-      map_of _ slot_entity c.args.t.slots c.mapped-entities.result (λ x y p. search rules) c.mapped-entities.ensures,
-      map_of _ label_of c.args.t.groups c.mapped-groups.result (λ x y p. search rules) c.mapped-groups.ensures,
+      map_of _ slot_entity c.args.t.now.slots c.mapped.result (λ x y p. search rules) c.mapped.ensures,
+      map_of _ label_of c.args.t.now.groups c.mapped-2.result (λ x y p. search rules) c.mapped-2.ensures,
     )
