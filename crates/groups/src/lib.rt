@@ -11,7 +11,5 @@ use label::Label;
 pub fn keeps_each(groups: &[Label], held: Label) -> bool
     ensures { result ≡ keeps_each words groups.now held }
 {
-    groups
-        .iter()
-        .all(|group| label::keeps(*group, held))
+    groups.iter().all(|group| label::keeps(*group, held))
 }

@@ -120,13 +120,13 @@ pub fn struct_of(t: &Table) -> HubTable
 
 // The same with no frame of its own, for a caller whose own is small. One of the two alone, and `struct_of` calling this one,
 // miss the stack that hub.h promises: each was tried.
-pub fn struct_here(t: &Table) -> HubTable
-    ensures { result ≡ struct_of t.now }
+pub fn struct_here(table: &Table) -> HubTable
+    ensures { result ≡ struct_of table.now }
 {
     HubTable {
-        slots: mapped(&t.entities, HubSlot::from),
-        content: t.content,
-        groups: mapped(&t.groups, |l| l.bits),
-        count: t.count,
+        slots: mapped(&table.entities, HubSlot::from),
+        content: table.content,
+        groups: mapped(&table.groups, |l| l.bits),
+        count: table.count,
     }
 }

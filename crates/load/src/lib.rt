@@ -65,10 +65,9 @@ fn groups_in(text: &[u8]) -> Table
 }
 
 // The entities of rows, stored in a table one after the other.
-fn entity_rows(rows: Rest<'_>, columns: EntityColumns, empty: Table) -> Stored
-    ensures { result ≡ fill columns rows.entry.place.line (none_stored empty) (lines_at rows.entry.text.now rows.entry.place.at) }
+fn entity_rows(rows: Rest<'_>, columns: EntityColumns, mut table: Table) -> Stored
+    ensures { result ≡ fill columns rows.entry.place.line (none_stored table) (lines_at rows.entry.text.now rows.entry.place.at) }
 {
-    let mut table = empty;
     let mut breaks = None;
     for (line, row) in rows {
         let Some(said) = rows::entity_row(columns, row) else {
@@ -85,7 +84,7 @@ fn entity_rows(rows: Rest<'_>, columns: EntityColumns, empty: Table) -> Stored
             breaks = breaks.or(Some(line));
         }
         let block = said.block;
-        table = table.with_slot(said.slot, said.entity, block);
+        table.set_slot(said.slot, said.entity, block);
     }
     Stored {
         twice: None,

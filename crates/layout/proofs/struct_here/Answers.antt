@@ -9,6 +9,6 @@ pub returns : goal.returns
 unfolding struct_of
 returns c =
     rw (
-      map_of _ slot_as c.args.t.now.entities c.mapped.result (λ x y p. search rules) c.mapped.ensures,
-      map_of _ bits_of c.args.t.now.groups c.mapped-2.result (λ x y p. search rules) c.mapped-2.ensures,
+      map_of _ slot_as c.args.table.now.entities c.mapped.result (λ x y p. search rules) c.mapped.ensures,
+      map_of _ bits_of c.args.table.now.groups c.mapped-2.result (λ x y p. search rules) c.mapped-2.ensures,
     )

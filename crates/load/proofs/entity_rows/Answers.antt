@@ -53,7 +53,7 @@ loop-line-preserved c =
       | then-not-keeps_all w ↦ w.breaks-is ∙ w.or-breaks.ensures ∙ rw (← c.keeps_all.ensures, w.if-not-keeps_all.true)
       | else-not-keeps_all w ↦ w.breaks-is ∙ rw (← c.keeps_all.ensures, w.if-not-keeps_all.false)
     ] in
-    let w = c.with_slot-table.ensures ∙ ap (λ (r : EntityRow). with_slot l.table r.slot r.entity r.block) y.2 in
+    let w = c.set_slot.ensures ∙ ap (λ (r : EntityRow). with_slot l.table r.slot r.entity r.block) y.2 in
     let d = b ∙ ap₂ (λ (r : EntityRow) (n : ℕ). breaks_at l.breaks (keeps_all (groups_of l.table) (bare r.entity)) n) y.2 t.number in
     rw (c.in-Some.ensures.steps.0, t.next)
     ((λ i. fill c.args.columns (l.line-iterator.place.line + 1) (stored (d i) (w i)) (lines_at l.line-iterator.text.now q.place.at))

@@ -13,4 +13,4 @@ stored b t = record { twice = None; breaks = b; table = t }
 abbrev pub invariant-loop-line : goal.invariant-loop-line
 invariant-loop-line l =
     fill l.columns l.line-iterator.place.line (stored l.breaks l.table) (lines_at l.line-iterator.text.now l.line-iterator.place.at)
-    ≡ fill l.columns l.fn.rows.place.line (none_stored l.fn.empty) (lines_at l.fn.rows.text.now l.fn.rows.place.at)
+    ≡ fill l.columns l.fn.rows.place.line (none_stored l.fn.table) (lines_at l.fn.rows.text.now l.fn.rows.place.at)
