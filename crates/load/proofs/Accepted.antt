@@ -27,10 +27,9 @@ use Rattle.text.specs.Lines.{Lines, done, cut, line, fields_in}
 use Rattle.rows.specs.declared.EntityColumns.{EntityColumns}
 use Rattle.rows.specs.Entities.{EntitySaid, entity_columns, entity_formed, entity_of}
 use Rattle.textblocks.specs.Blocks.{start, bad_line, names_at, rows_at, groups_at}
-use Rattle.load.specs.declared.Stored.{Stored}
 use Rattle.rules.specs.declared.Refusal.{Refusal}
 use Rattle.rules.specs.declared.Refusal.TheVariants.{TextTooLong, BadLine, SlotTwice, EntityBreaksGroup}
-use Rattle.load.specs.Tables.{groups_from, empty_with, none_stored, breaks_at, with_entity, fill, groups_in, entities_in, table_in}
+use Rattle.load.specs.Tables.{Stored, groups_from, empty_with, none_stored, breaks_at, with_entity, fill, groups_in, entities_on, entities_in, table_in}
 use Rattle.load.specs.Load.{Verdict, refuse_at, verdict_of, on_accepted, load_of}
 use Rattle.load.specs.Claims.{LoadsAccepted}
 use Rattle.load.proofs.Rows.{empty-none}
@@ -156,7 +155,7 @@ module _ (text : List ℕ) where
   bad_none e = (lines_good e).0
 
   table_keeping : (entities_in text).breaks ≡ None → Keeping (table_in text)
-  unfolding table_in entities_in groups_in
+  unfolding table_in entities_in entities_on groups_in
   table_keeping b =
       fill-keeps (entity_columns (names_at text start)) (rows_at text start) 2 (none_stored (empty_with (groups_in text)))
       (λ e. empty_keeping (groups_in text) (few (rows_at text (groups_at text)) [] (omega arith))) b

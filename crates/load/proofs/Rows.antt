@@ -21,8 +21,7 @@ use Rattle.rows.specs.declared.EntityColumns.{EntityColumns}
 use Rattle.rows.specs.Entities.{EntitySaid, entity_of}
 use Rattle.textblocks.specs.declared.Place.{Place}
 use Rattle.textblocks.specs.Blocks.{Inside, Steps, lines_at, rows_at}
-use Rattle.load.specs.declared.Stored.{Stored}
-use Rattle.load.specs.Tables.{groups_from, empty_with, with_entity, fill}
+use Rattle.load.specs.Tables.{Stored, groups_from, empty_with, with_entity, fill}
 
 -- ---- rows behind a line of names
 

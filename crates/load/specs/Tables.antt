@@ -14,7 +14,7 @@ use Rattle.text.specs.Lines.{Lines, done, cut, line, fields_in}
 use Rattle.rows.specs.declared.EntityColumns.{EntityColumns}
 use Rattle.rows.specs.Entities.{EntitySaid, entity_columns, entity_of}
 use Rattle.textblocks.specs.Blocks.{start, groups_at, names_at, rows_at}
-use Rattle.load.specs.declared.Stored.{Stored}
+use Rattle.load.specs.declared.Marks.{Marks}
 
 -- ---- the groups
 
@@ -29,6 +29,13 @@ unfoldable pub empty_with : List Label → Table
 empty_with gs = record { entities = empty_table.entities; content = empty_table.content; groups = gs ++ replicate (8 - length gs) empty; count = length gs }
 
 -- ---- the entities, 16 and 17
+
+-- the table that entities are stored in; the first line whose slot an earlier one names; the first line before it whose entity
+-- breaks a group
+pub record Stored : Type 0 where
+  pub twice : Option ℕ
+  pub breaks : Option ℕ
+  pub table : Table
 
 -- a table in which nothing is stored yet
 abbrev pub none_stored : Table → Stored
@@ -63,9 +70,16 @@ module _ (text : List ℕ) where
   unfoldable pub groups_in : List Label
   groups_in = groups_from [] (rows_at text (groups_at text))
 
-  -- the first row of the entities is line 2
+  -- the entities, stored in a table; the first row is line 2
+  unfoldable pub entities_on : Table → Stored
+  entities_on t = fill (entity_columns (names_at text start)) 2 (none_stored t) (rows_at text start)
+
   unfoldable pub entities_in : Stored
-  entities_in = fill (entity_columns (names_at text start)) 2 (none_stored (empty_with groups_in)) (rows_at text start)
+  entities_in = entities_on (empty_with groups_in)
 
   unfoldable pub table_in : Table
   table_in = entities_in.table
+
+-- what the code answers, and the table that it leaves
+abbrev pub stored : Marks → Table → Stored
+stored m t = record { twice = m.twice; breaks = m.breaks; table = t }

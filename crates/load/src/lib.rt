@@ -4,7 +4,7 @@
 ghost use Rattle.std.specs.Prelude.{◌≡◌, [], Ok};
 ghost use Rattle.rules.specs.declared.Refusal.TheVariants.{BadLine, SlotTwice, EntityBreaksGroup};
 ghost use Rattle.textblocks.specs.Blocks.{lines_at, bad_line};
-ghost use Rattle.load.specs.Tables.{groups_from, empty_with, none_stored, fill, groups_in, entities_in};
+ghost use Rattle.load.specs.Tables.{groups_from, empty_with, none_stored, fill, groups_in, stored, entities_on};
 ghost use Rattle.load.specs.Load.{verdict_number, verdict_line, refuse_at, loaded_with, load_of};
 
 use monitor::Table;
@@ -12,13 +12,12 @@ use rows::EntityColumns;
 use rules::Refusal;
 use textblocks::Rest;
 
-// The table that the entities of a text are stored in; the first line whose slot an earlier one names; the first line before
-// it whose entity breaks a group.
+// What storing the entities of a text found: the first line whose slot an earlier one names; the first line before it whose
+// entity breaks a group.
 #[derive(Clone, Copy)]
-pub struct Stored {
+pub struct Marks {
     pub twice: Option<usize>,
     pub breaks: Option<usize>,
-    pub table: Table,
 }
 
 // Why a text is refused, and at which line; 0 where it is none.
@@ -64,9 +63,9 @@ fn groups_in(text: &[u8]) -> Table
     group_rows(rows)
 }
 
-// The entities of rows, stored in a table one after the other.
-fn entity_rows(rows: Rest<'_>, columns: EntityColumns, mut table: Table) -> Stored
-    ensures { result ≡ fill columns rows.entry.place.line (none_stored table) (lines_at rows.entry.text.now rows.entry.place.at) }
+// The entities of rows go to a table one after the other, in place.
+fn entity_rows(rows: Rest<'_>, columns: EntityColumns, table: &mut Table) -> Marks
+    ensures { stored result table.new ≡ fill columns rows.entry.place.line (none_stored table.old) (lines_at rows.entry.text.now rows.entry.place.at) }
 {
     let mut breaks = None;
     for (line, row) in rows {
@@ -74,10 +73,9 @@ fn entity_rows(rows: Rest<'_>, columns: EntityColumns, mut table: Table) -> Stor
             break;
         };
         if !table.entity(said.slot).is_free() {
-            return Stored {
+            return Marks {
                 twice: Some(line),
                 breaks,
-                table,
             };
         }
         if !table.keeps_all(said.entity) {
@@ -86,21 +84,20 @@ fn entity_rows(rows: Rest<'_>, columns: EntityColumns, mut table: Table) -> Stor
         let block = said.block;
         table.set_slot(said.slot, said.entity, block);
     }
-    Stored {
+    Marks {
         twice: None,
         breaks,
-        table,
     }
 }
 
-// The entities of a text, in a table with its groups.
-fn entities_in(text: &[u8]) -> Stored
-    ensures { result ≡ entities_in text.now }
+// The entities of a text go to a table.
+fn entities_in(text: &[u8], table: &mut Table) -> Marks
+    ensures { stored result table.new ≡ entities_on text.now table.old }
 {
     let columns = rows::entity_columns(text::line_at(text, 0));
     let mut rows = Rest::all(text);
     rows.next();
-    entity_rows(rows, columns, groups_in(text))
+    entity_rows(rows, columns, table)
 }
 
 // Refused where there is such a line.
@@ -115,40 +112,39 @@ fn refuse_at(refusal: Refusal, line: Option<usize>) -> Result<(), Fault>
 }
 
 // What the checks of a text that is not too long say, in their order.
-fn verdict(text: &[u8], twice: Option<usize>, breaks: Option<usize>) -> Result<(), Fault>
-    ensures { result ≡ refuse_at BadLine (bad_line text.now) (refuse_at SlotTwice twice (refuse_at EntityBreaksGroup breaks (Ok tt))) }
+fn verdict(text: &[u8], marks: Marks) -> Result<(), Fault>
+    ensures { result ≡ refuse_at BadLine (bad_line text.now) (refuse_at SlotTwice marks.twice (refuse_at EntityBreaksGroup marks.breaks (Ok tt))) }
 {
     refuse_at(Refusal::BadLine, textblocks::bad_line(text))?;
-    refuse_at(Refusal::SlotTwice, twice)?;
-    refuse_at(Refusal::EntityBreaksGroup, breaks)
+    refuse_at(Refusal::SlotTwice, marks.twice)?;
+    refuse_at(Refusal::EntityBreaksGroup, marks.breaks)
 }
 
-// A verdict with its table, the empty one where the text is refused. A `Result` of the table would take a third more stack
-// than C is promised.
-fn loaded_with(verdict: Result<(), Fault>, table: Table) -> Loaded
-    ensures { result ≡ loaded_with verdict table }
-{
-    match verdict {
-        Ok(()) => Loaded { verdict, table },
-        Err(_) => {
-            let table = Table::empty();
-            Loaded { verdict, table }
-        }
-    }
-}
-
-// Loads a text.
+// Loads a text. The table is filled in place: a `Result` of it takes more stack than C is promised.
 pub fn load(text: &[u8]) -> Loaded
     ensures { result ≡ load_of text.now }
 {
     if 65535 < text.len() {
-        let refusal = Refusal::TextTooLong;
-        return loaded_with(Err(Fault { refusal, line: 0 }), Table::empty());
+        return Loaded {
+            verdict: Err(Fault {
+                refusal: Refusal::TextTooLong,
+                line: 0,
+            }),
+            table: Table::empty(),
+        };
     }
-    let entities = entities_in(text);
-    let verdict = verdict(text, entities.twice, entities.breaks);
-    let table = entities.table;
-    loaded_with(verdict, table)
+    let mut table = groups_in(text);
+    let marks = entities_in(text, &mut table);
+    match verdict(text, marks) {
+        Ok(()) => Loaded {
+            verdict: Ok(()),
+            table,
+        },
+        Err(fault) => Loaded {
+            verdict: Err(fault),
+            table: Table::empty(),
+        },
+    }
 }
 
 // The number that a verdict returns; 0 where the text is accepted.

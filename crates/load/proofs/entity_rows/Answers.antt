@@ -11,7 +11,7 @@ use Rattle.textblocks.proofs.Laws.{Took, took}
 use Rattle.load.specs.Tables.{breaks_at, with_entity, fill}
 use Rattle.load.proofs.Rows.{none_left, fill_over, fill_none, fill_twice, fill_step}
 use Rattle.load.proofs.EntityLines.{row_said, row_none}
-use Rattle.load.proofs.entity_rows.Invariants.{stored}
+use Rattle.load.proofs.entity_rows.Invariants.{so_far}
 use Rattle.load.proofs.entity_rows.Goals as goal
 use Rattle.load.proofs.entity_rows.Goals.{In-Some, After-is_free, then-not-keeps_all, else-not-keeps_all}
 
@@ -31,18 +31,18 @@ module _ (c : After-is_free) where
 pub returns-in-None : goal.returns-in-None
 returns-in-None c =
     let l = c.loop-line in let i = l.line-iterator in
-    sym (fill_over c.args.columns i.place.line (stored l.breaks l.table) _ (none_left i.text.now i.place c.next.new.self.place i.inside c.in-None.ensures.steps.1)) ∙ l.invariant
+    sym (fill_over c.args.columns i.place.line (so_far l.breaks l.table) _ (none_left i.text.now i.place c.next.new.self.place i.inside c.in-None.ensures.steps.1)) ∙ l.invariant
 
 pub returns-in_default : goal.returns-in_default
 returns-in_default c =
     let l = c.loop-line in let t = line_taken (goal.at.returns-in_default c).In-Some in
-    sym (fill_none c.args.columns l.line-iterator.place.line (stored l.breaks l.table) t.is (row_none _ (sym c.entity_row.ensures ∙ c.in_default.is))) ∙ l.invariant
+    sym (fill_none c.args.columns l.line-iterator.place.line (so_far l.breaks l.table) t.is (row_none _ (sym c.entity_row.ensures ∙ c.in_default.is))) ∙ l.invariant
 
 pub returns-then-not-is_free : goal.returns-then-not-is_free
 returns-then-not-is_free c =
     let l = c.loop-line in let t = line_taken (goal.at.returns-then-not-is_free c).In-Some in let k = (goal.at.returns-then-not-is_free c).After-is_free in
     let y = read k in
-    rw t.number (sym (fill_twice c.args.columns l.line-iterator.place.line (stored l.breaks l.table) t.is y.0 y.1 (free k ∙ c.if-not-is_free.true)) ∙ l.invariant)
+    rw t.number (sym (fill_twice c.args.columns l.line-iterator.place.line (so_far l.breaks l.table) t.is y.0 y.1 (free k ∙ c.if-not-is_free.true)) ∙ l.invariant)
 
 pub loop-line-preserved : goal.loop-line-preserved
 unfolding with_entity breaks_at
@@ -56,5 +56,5 @@ loop-line-preserved c =
     let w = c.set_slot.ensures ∙ ap (λ (r : EntityRow). with_slot l.table r.slot r.entity r.block) y.2 in
     let d = b ∙ ap₂ (λ (r : EntityRow) (n : ℕ). breaks_at l.breaks (keeps_all (groups_of l.table) (bare r.entity)) n) y.2 t.number in
     rw (c.in-Some.ensures.steps.0, t.next)
-    ((λ i. fill c.args.columns (l.line-iterator.place.line + 1) (stored (d i) (w i)) (lines_at l.line-iterator.text.now q.place.at))
-    ∙ sym (fill_step c.args.columns l.line-iterator.place.line (stored l.breaks l.table) t.is y.0 y.1 (free k ∙ c.if-not-is_free.false)) ∙ l.invariant)
+    ((λ i. fill c.args.columns (l.line-iterator.place.line + 1) (so_far (d i) (w i)) (lines_at l.line-iterator.text.now q.place.at))
+    ∙ sym (fill_step c.args.columns l.line-iterator.place.line (so_far l.breaks l.table) t.is y.0 y.1 (free k ∙ c.if-not-is_free.false)) ∙ l.invariant)

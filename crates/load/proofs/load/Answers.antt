@@ -1,9 +1,8 @@
-use Rattle.std.proofs.Common.{◌∙◌, ap, ap₂, Ok}
+use Rattle.std.proofs.Common.{◌≡◌, ◌∙◌, sym, ap, ap₂, Ok, Err}
 use borrow.Author.Tests.{lt-ltb, le-ltb}
-use Rattle.rules.specs.declared.Refusal.TheVariants.{BadLine, SlotTwice, EntityBreaksGroup}
+use Rattle.rules.specs.declared.Refusal.TheVariants.{TextTooLong, BadLine, SlotTwice, EntityBreaksGroup}
 use Rattle.textblocks.specs.Blocks.{bad_line}
-use Rattle.load.specs.declared.Stored.{Stored}
-use Rattle.load.specs.Tables.{table_in}
+use Rattle.load.specs.Tables.{Stored, stored, entities_on, entities_in, table_in}
 use Rattle.load.specs.Load.{refuse_at, verdict_of, loaded_with, load_of}
 use Rattle.load.proofs.load.Goals as goal
 
@@ -11,11 +10,22 @@ use Rattle.load.proofs.load.Goals as goal
 
 pub returns-then-text-gt65535 : goal.returns-then-text-gt65535
 unfolding load_of verdict_of
-returns-then-text-gt65535 c = c.loaded_with.ensures ∙ rw (lt-ltb _ _ c.if-text-gt65535.true)
+returns-then-text-gt65535 c =
+    let d = c.empty.ensures in
+    (λ i. record { verdict = Err (record { refusal = TextTooLong; line = 0 }); table = d i }) ∙ rw (lt-ltb _ _ c.if-text-gt65535.true)
 
-pub returns : goal.returns
-unfolding load_of verdict_of table_in
-returns c =
-    let e = c.entities_in-entities.ensures in
-    let v = c.verdict-verdict.ensures ∙ ap (λ (s : Stored). refuse_at BadLine (bad_line c.args.text.now) (refuse_at SlotTwice s.twice (refuse_at EntityBreaksGroup s.breaks (Ok tt)))) e in
-    c.loaded_with-2.ensures ∙ ap₂ loaded_with v (ap (λ (s : Stored). s.table) e) ∙ rw (le-ltb _ _ c.if-text-gt65535.false)
+pub returns-in-Ok : goal.returns-in-Ok
+unfolding load_of verdict_of entities_in table_in
+returns-in-Ok c =
+    let e : stored c.entities_in-marks.result c.entities_in-marks.new.table ≡ entities_in c.args.text.now = c.entities_in-marks.ensures ∙ ap (entities_on c.args.text.now) c.groups_in-table.ensures in
+    let v = c.verdict.ensures ∙ ap (λ (s : Stored). refuse_at BadLine (bad_line c.args.text.now) (refuse_at SlotTwice s.twice (refuse_at EntityBreaksGroup s.breaks (Ok tt)))) e in
+    ap₂ loaded_with (sym c.in-Ok.is ∙ v) (ap (λ (s : Stored). s.table) e) ∙ rw (le-ltb _ _ c.if-text-gt65535.false)
+
+pub returns-in-Err : goal.returns-in-Err
+unfolding load_of verdict_of entities_in table_in
+returns-in-Err c =
+    let e : stored c.entities_in-marks.result c.entities_in-marks.new.table ≡ entities_in c.args.text.now = c.entities_in-marks.ensures ∙ ap (entities_on c.args.text.now) c.groups_in-table.ensures in
+    let v = c.verdict.ensures ∙ ap (λ (s : Stored). refuse_at BadLine (bad_line c.args.text.now) (refuse_at SlotTwice s.twice (refuse_at EntityBreaksGroup s.breaks (Ok tt)))) e in
+    let d = c.empty-in-Err.ensures in
+    (λ i. record { verdict = Err c.in-Err.fault; table = d i })
+    ∙ ap₂ loaded_with (sym c.in-Err.is ∙ v) (ap (λ (s : Stored). s.table) e) ∙ rw (le-ltb _ _ c.if-text-gt65535.false)
