@@ -2,6 +2,7 @@
 #![tactic(auto)]
 
 ghost use Rattle.std.specs.Prelude.{◌≡◌, cond, [], ltb, length, Ok};
+ghost use Rattle.monitor.specs.Table.{empty_table};
 ghost use Rattle.textblocks.specs.Blocks.{lines_at, bad_line};
 ghost use Rattle.load.specs.Tables.{groups_from, empty_with, none_stored, fill, groups_in, stored, entities_on};
 ghost use Rattle.load.specs.Load.{verdict_number, verdict_line, refuse_at, checks, verdict_by, load_of};
@@ -33,12 +34,11 @@ pub struct Loaded {
     pub table: Table,
 }
 
-// The empty table with the groups of rows. Not inlined, which would leave its tables on the stack that C is promised.
-#[inline(never)]
-fn group_rows(rows: Rest<'_>) -> Table
-    ensures { result ≡ empty_with (groups_from [] (lines_at rows.entry.text.now rows.entry.place.at)) }
+// The groups of rows go to an empty table, in place.
+fn group_rows(rows: Rest<'_>, table: &mut Table)
+    requires { table.old ≡ empty_table }
+    ensures { table.new ≡ empty_with (groups_from [] (lines_at rows.entry.text.now rows.entry.place.at)) }
 {
-    let mut table = Table::empty();
     for (_, row) in rows {
         let Some(group) = values::hex_set(row) else {
             break;
@@ -50,16 +50,16 @@ fn group_rows(rows: Rest<'_>) -> Table
         table.groups[count] = group;
         table.count = count + 1;
     }
-    table
 }
 
-// The empty table with the groups of a text.
-fn groups_in(text: &[u8]) -> Table
-    ensures { result ≡ empty_with (groups_in text.now) }
+// The groups of a text go to an empty table.
+fn groups_in(text: &[u8], table: &mut Table)
+    requires { table.old ≡ empty_table }
+    ensures { table.new ≡ empty_with (groups_in text.now) }
 {
     let mut rows = textblocks::groups(text);
     rows.next();
-    group_rows(rows)
+    group_rows(rows, table);
 }
 
 // The entities of rows go to a table one after the other, in place.
@@ -152,7 +152,8 @@ pub fn load(text: &[u8]) -> Loaded
     ensures { result ≡ load_of text.now }
 {
     let short = unless_long(text);
-    let mut table = groups_in(short);
+    let mut table = Table::empty();
+    groups_in(short, &mut table);
     let marks = entities_in(short, &mut table);
     match verdict_by(text, marks) {
         Ok(()) => Loaded {

@@ -21,7 +21,7 @@ module _ (c : In-Some-hex_set) where
   is_set = sym c.hex_set.ensures ∙ c.in-Some-hex_set.is
 
 pub loop-row-init : goal.loop-row-init
-loop-row-init c = record { gs = []; kept = c.empty-table.ensures ∙ sym empty-none; says = rw c.into_iter-row-iterator.ensures.into_iter_gives }
+loop-row-init c = record { gs = []; kept = c.requires ∙ sym empty-none; says = rw c.into_iter-row-iterator.ensures.into_iter_gives }
 
 pub loop-row-preserved : goal.loop-row-preserved
 loop-row-preserved c =

@@ -28,14 +28,14 @@ pub returns-in-Ok : goal.returns-in-Ok
 unfolding entities_in
 returns-in-Ok c =
     let x = c.args.text.now in
-    let e : stored c.entities_in-marks.result c.entities_in-marks.new.table ≡ entities_in c.unless_long-short.result.now = c.entities_in-marks.ensures ∙ ap (entities_on c.unless_long-short.result.now) c.groups_in-table.ensures in
+    let e : stored c.entities_in-marks.result c.entities_in-marks.new.table ≡ entities_in c.unless_long-short.result.now = c.entities_in-marks.ensures ∙ ap (entities_on c.unless_long-short.result.now) c.groups_in.ensures in
     loads x c.unless_long-short.result.now c.entities_in-marks.result c.entities_in-marks.new.table (Ok tt) c.unless_long-short.ensures e (sym c.in-Ok.is ∙ c.verdict_by.ensures)
 
 pub returns-in-Err : goal.returns-in-Err
 unfolding entities_in
 returns-in-Err c =
     let x = c.args.text.now in
-    let e : stored c.entities_in-marks.result c.entities_in-marks.new.table ≡ entities_in c.unless_long-short.result.now = c.entities_in-marks.ensures ∙ ap (entities_on c.unless_long-short.result.now) c.groups_in-table.ensures in
+    let e : stored c.entities_in-marks.result c.entities_in-marks.new.table ≡ entities_in c.unless_long-short.result.now = c.entities_in-marks.ensures ∙ ap (entities_on c.unless_long-short.result.now) c.groups_in.ensures in
     let d = c.empty.ensures in
     (λ i. record { verdict = Err c.in-Err.fault; table = d i })
     ∙ loads x c.unless_long-short.result.now c.entities_in-marks.result c.entities_in-marks.new.table (Err c.in-Err.fault) c.unless_long-short.ensures e (sym c.in-Err.is ∙ c.verdict_by.ensures)
