@@ -33,7 +33,7 @@ use Rattle.values.specs.Values.{digit_of, decimal_from, decimal_of, set_from, he
 use Rattle.text.specs.Lines.{before, lines_of, line_end, line_at, next_line, ahead, fields_in, has_names, names_once, column_of}
 use Rattle.callrows.specs.Calls.{call_columns, call_named, data_if, show_buffer, call_of}
 use Rattle.rows.specs.Entities.{kind_named, entity_formed, entity_columns, entity_in, entity_of}
-use Rattle.load.specs.declared.Verdict.TheVariants.{Accepted}
+use Rattle.std.specs.Prelude.{Ok}
 use Rattle.textblocks.specs.Blocks.{bytes_past, lines_past, start, past_empty, groups_at, calls_at, rows_bad, block_bad, entities_bad, groups_bad, calls_bad, bad_line}
 use Rattle.textblocks.specs.CallsIn.{calls_from, call_columns_in, calls_of}
 use Rattle.load.specs.Tables.{groups_from, empty_with, breaks_at, with_entity, fill, groups_in, entities_on, entities_in, table_in}
@@ -48,7 +48,7 @@ unfoldable pub reading : ℕ
 unfolding computed eq_bytes index_of digit_of digit_in with_digit decimal_from decimal_of set_from hex_set_of pairs_from data_of before lines_of line_end line_at next_line ahead fields_in has_names names_once column_of call_columns call_named data_if show_buffer call_of kind_named entity_formed entity_columns entity_in entity_of bytes_past lines_past start past_empty groups_at calls_at rows_bad block_bad entities_bad groups_bad calls_bad bad_line calls_from call_columns_in calls_of groups_from empty_with breaks_at with_entity fill groups_in entities_on entities_in table_in refuse_at verdict_of entity_at with_slot empty_table
 reading = 0
 
-accepted : verdict_of watering ≡ Accepted
+accepted : verdict_of watering ≡ Ok tt
 unfolding reading
 accepted = refl
 

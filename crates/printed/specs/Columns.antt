@@ -1,8 +1,7 @@
 -- Document 01, 'The text': names may come in any order, and each field is read from the column of its own name. Worked on one line
 -- of the entities and two of the calls, whose fields all differ.
 -- Assumes nothing.
-use Rattle.std.specs.Prelude.{◌≡◌, [], ◌∷◌}
-use Rattle.std.proofs.Math.Option.{some}
+use Rattle.std.specs.Prelude.{◌≡◌, [], ◌∷◌, Some}
 use Rattle.rules.specs.declared.Kind.TheVariants.{Program}
 use Rattle.rules.specs.declared.Call.TheVariants.{Put, Hand}
 use Rattle.label.specs.Tags.{label_of}
@@ -13,7 +12,7 @@ use Rattle.callrows.specs.Calls.{call_columns, call_of}
 
 pub record ColumnsRead : Type 0 where
   pub entity : entity_of (entity_columns (fields_in (ascii "data id ia sd sa int sec kind slot"))) (fields_in (ascii "a1b2 20 10 8 4 2 0f01 prog 31"))
-      ≡ some (record {
+      ≡ Some (record {
         slot = 31;
         entity = record {
           kind = Program;
@@ -28,6 +27,6 @@ pub record ColumnsRead : Type 0 where
         content = 0xa1 ∷ 0xb2 ∷ [];
       })
   pub hand : call_of (call_columns (fields_in (ascii "data tag set other caller call"))) (fields_in (ascii "- 63 3 102 1 hand"))
-      ≡ some (record { call = Hand 1 102 3 63; bytes = [] })
+      ≡ Some (record { call = Hand 1 102 3 63; bytes = [] })
   pub put : call_of (call_columns (fields_in (ascii "tag call data other set caller"))) (fields_in (ascii "- put 0bff - - 255"))
-      ≡ some (record { call = Put 255; bytes = 0x0b ∷ 0xff ∷ [] })
+      ≡ Some (record { call = Put 255; bytes = 0x0b ∷ 0xff ∷ [] })

@@ -1,14 +1,13 @@
 -- Document 01, 'A watering round through hubcalls': the text and the output as they are printed there, and that the one gives the
 -- other.
 -- Assumes nothing.
-use Rattle.std.specs.Prelude.{◌≡◌, List, ◌++◌, ℕ}
+use Rattle.std.specs.Prelude.{◌≡◌, List, ◌++◌, ℕ, Ok}
 use Rattle.rules.specs.Table.{plain}
 use Rattle.rules.specs.SameSlots.{HoldSame}
 use Rattle.label.specs.Words.{words}
 use Rattle.cases.specs.Rounds.{calls_made, round_table, round}
 use Rattle.monitor.specs.Table.{hub}
 use Rattle.text.specs.Ascii.{ascii}
-use Rattle.load.specs.declared.Verdict.TheVariants.{Accepted}
 use Rattle.load.specs.Load.{verdict_of, load_of}
 use Rattle.textblocks.specs.CallsIn.{calls_of}
 use Rattle.round.specs.Round.{output_of}
@@ -44,7 +43,7 @@ watering_prints =
 -- The text is accepted, and loads as a table that holds what the worked round's table holds; its calls are that round's; and what
 -- the program has to print for it is what document 01 prints
 pub record WateringPrinted : Type 0 where
-  pub verdict : verdict_of watering ≡ Accepted
+  pub verdict : verdict_of watering ≡ Ok tt
   pub table : HoldSame hub (plain words) (load_of watering).table round_table
   pub calls : calls_of watering ≡ calls_made round
   pub output : output_of watering ≡ watering_prints
