@@ -11,15 +11,15 @@ use arrayvec::ArrayVec;
 // A line. The longest is that of a record and 64 bytes shown.
 pub type Line = ArrayVec<u8, 162>;
 
-// The functions from here to with_decimal put something behind a line, as much of it as has room.
+// The functions from here to push_decimal put something behind a line, as much of it as has room. By a reference: a line that goes
+// in and comes back by value is copied at each byte.
 
-fn with_bytes(mut line: Line, src: &[u8]) -> Line
-    ensures { result.items ≡ line_with line.items src.now }
+fn push_bytes(line: &mut Line, src: &[u8])
+    ensures { line.new.items ≡ line_with line.old.items src.now }
 {
     let room = line.remaining_capacity();
     line.try_extend_from_slice(handing::front(src, room))
         .unwrap();
-    line
 }
 
 fn digit_text(n: u8) -> u8
@@ -33,72 +33,86 @@ fn digit_text(n: u8) -> u8
 }
 
 // Neither this nor a whole line is written by a Display: no clause of write! says when it succeeds, and these cannot fail.
-fn with_hex(mut line: Line, src: &[u8]) -> Line
-    ensures { result.items ≡ line_with line.items (hex_text src.now) }
+fn push_hex(line: &mut Line, src: &[u8])
+    ensures { line.new.items ≡ line_with line.old.items (hex_text src.now) }
 {
     for b in src {
-        line = with_bytes(line, &[digit_text(*b / 16), digit_text(*b % 16)]);
+        push_bytes(line, &[digit_text(*b / 16), digit_text(*b % 16)]);
     }
-    line
 }
 
-fn with_data(line: Line, src: &[u8]) -> Line
-    ensures { result.items ≡ line_with line.items (data_text src.now) }
+fn push_data(line: &mut Line, src: &[u8])
+    ensures { line.new.items ≡ line_with line.old.items (data_text src.now) }
 {
     if src.is_empty() {
-        return with_bytes(line, b"-");
+        push_bytes(line, b"-");
+    } else {
+        push_hex(line, src);
     }
-    with_hex(line, src)
 }
 
-fn with_decimal(line: Line, n: u64) -> Line
-    ensures { result.items ≡ line_with line.items (decimal_text n) }
+fn push_decimal(line: &mut Line, n: u64)
+    ensures { line.new.items ≡ line_with line.old.items (decimal_text n) }
 {
     let mut digits = itoa::Buffer::new();
-    with_bytes(line, digits.format(n).as_bytes())
+    push_bytes(line, digits.format(n).as_bytes());
 }
 
 // Bytes as they are, in the place of a line; of more than a line can hold, its first.
 pub fn line_of(src: &[u8]) -> Line
     ensures { result.items ≡ take line_size src.now }
 {
-    with_bytes(Line::new(), src)
+    let mut line = Line::new();
+    push_bytes(&mut line, src);
+    line
 }
 
 // The line of a call: its record, and the first n bytes of show's buffer.
 pub fn call_line(entry: [u8; records::SIZE], buffer: [u8; 64], n: usize) -> Line
     ensures { result.items ≡ call_line entry (take n buffer) }
 {
-    let record = with_bytes(with_hex(Line::new(), &entry), b" ");
-    let shown = with_data(record, handing::front(&buffer, n));
-    with_bytes(shown, b"\n")
+    let mut line = Line::new();
+    push_hex(&mut line, &entry);
+    push_bytes(&mut line, b" ");
+    push_data(&mut line, handing::front(&buffer, n));
+    push_bytes(&mut line, b"\n");
+    line
 }
 
 // The line of the record at a slice's front.
 pub fn record_line(src: &[u8]) -> Line
     ensures { result.items ≡ record_line (take (record_size words) src.now) }
 {
-    let record = with_hex(Line::new(), handing::front(src, records::SIZE));
-    with_bytes(record, b"\n")
+    let mut record = Line::new();
+    push_hex(&mut record, handing::front(src, records::SIZE));
+    push_bytes(&mut record, b"\n");
+    record
 }
 
 fn refused(number: u8) -> Line
     ensures { result.items ≡ refused_text ++ decimal_text number }
 {
-    with_decimal(line_of(b"refused "), u64::from(number))
+    let mut line = line_of(b"refused ");
+    push_decimal(&mut line, u64::from(number));
+    line
 }
 
 // The line of a refused audit.
 pub fn refused_audit(number: u8) -> Line
     ensures { result.items ≡ refused_audit number }
 {
-    with_bytes(refused(number), b"\n")
+    let mut refusal = refused(number);
+    push_bytes(&mut refusal, b"\n");
+    refusal
 }
 
 // The line of a refused text.
 pub fn refused_line(number: u8, line: usize) -> Line
     ensures { result.items ≡ refused_line number line }
 {
-    let text = with_bytes(refused(number), b" line ");
-    with_bytes(with_decimal(text, line as u64), b"\n")
+    let mut text = refused(number);
+    push_bytes(&mut text, b" line ");
+    push_decimal(&mut text, line as u64);
+    push_bytes(&mut text, b"\n");
+    text
 }

@@ -6,5 +6,5 @@ use Rattle.print.proofs.refused.Goals as goal
 pub returns : goal.returns
 returns c =
     let n = c.args.number in
-    let number = more refused_text (decimal_text c.from.result) c.line_of.ensures c.with_decimal.ensures ∙ ap (λ (k : ℕ). line_with [] (refused_text ++ decimal_text k)) c.from.ensures in
+    let number = more refused_text (decimal_text c.from.result) c.line_of-line.ensures c.push_decimal.ensures ∙ ap (λ (k : ℕ). line_with [] (refused_text ++ decimal_text k)) c.from.ensures in
     whole (refused_text ++ decimal_text n) number (omega (arith, decimal_most n (omega arith)))

@@ -9,4 +9,4 @@ returns c =
     let d = decimal_text c.args.number in
     let text = refused_text ++ d in
     let short = decimal_most c.args.number (omega arith) in
-    whole (text ++ (10 ∷ [])) (more text (10 ∷ []) (c.refused.ensures ∙ fits text (omega arith)) c.with_bytes.ensures) (omega (arith, length-append d (10 ∷ [])))
+    whole (text ++ (10 ∷ [])) (more text (10 ∷ []) (c.refused-refusal.ensures ∙ fits text (omega arith)) c.push_bytes.ensures) (omega (arith, length-append d (10 ∷ [])))

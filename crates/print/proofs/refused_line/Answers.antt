@@ -10,9 +10,9 @@ returns c =
     let d = decimal_text c.args.number in let e = decimal_text c.args.line in
     let text = refused_text ++ d in
     let short = decimal_most c.args.number (omega arith) in
-    let words = more text (ascii " line ") (c.refused.ensures ∙ fits text (omega arith)) c.with_bytes-text.ensures in
-    let number = more (text ++ ascii " line ") e words c.with_decimal.ensures in
+    let words = more text (ascii " line ") (c.refused-text.ensures ∙ fits text (omega arith)) c.push_bytes.ensures in
+    let number = more (text ++ ascii " line ") e words c.push_decimal.ensures in
     let joined : text ++ ascii " line " ++ e ++ (10 ∷ []) ≡ refused_line c.args.number c.args.line = simp append_assoc in
-    whole (text ++ ascii " line " ++ e ++ (10 ∷ [])) (more (text ++ ascii " line " ++ e) (10 ∷ []) number c.with_bytes.ensures)
+    whole (text ++ ascii " line " ++ e ++ (10 ∷ [])) (more (text ++ ascii " line " ++ e) (10 ∷ []) number c.push_bytes-2.ensures)
     (omega (arith, decimal_most c.args.line (omega arith), length-append (d ++ ascii " line ") e, length-append d (ascii " line "), length-append (d ++ ascii " line " ++ e) (10 ∷ [])))
     ∙ joined

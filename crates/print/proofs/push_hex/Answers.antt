@@ -1,12 +1,12 @@
 use Rattle.std.proofs.Common.{◌+◌, ℕ, List, ◌∷◌, [], drop, ap, ap₂, ◌∙◌}
 use Rattle.print.specs.Lines.{hex_text, line_with}
 use Rattle.print.proofs.Laws.{hex_more, hex_all}
-use Rattle.print.proofs.with_hex.Goals as goal
+use Rattle.print.proofs.push_hex.Goals as goal
 
 pub loop-b-preserved : goal.loop-b-preserved
 loop-b-preserved c =
     let l = c.loop-b in let s = c.args.src.now in
-    let put = c.with_bytes-line.ensures ∙ ap₂ (λ (x y : ℕ). line_with l.line.items (x ∷ y ∷ [])) c.digit_text.ensures c.digit_text-in-loop-b.ensures in
+    let put = c.push_bytes.ensures ∙ ap₂ (λ (x y : ℕ). line_with l.line.items (x ∷ y ∷ [])) c.digit_text.ensures c.digit_text-in-loop-b.ensures in
     ap (λ (x : List ℕ). line_with x (hex_text (drop (l.b-index + 1) s))) put ∙ hex_more l.line.items s l.b-index c.loop-b-test.true ∙ l.invariant
 
 pub returns : goal.returns
