@@ -61,8 +61,7 @@ fn answered(t: HubTable, r: Reply) -> HubReply
     }
 }
 
-// The same over `struct_here`, for show. Over `struct_of` show misses the stack that hub.h promises, over `struct_here` the
-// other calls do, and so does one function that takes the call as a closure: each was tried.
+// The same over `struct_here`, for show, which misses the stack that hub.h promises over `struct_of` (tried).
 fn answered_here(t: HubTable, r: Reply) -> HubReply
     ensures { result ≡ answered t r }
 {

@@ -38,8 +38,8 @@ pub struct HubTable {
 impl From<HubSlot> for Entity {
     ghost from_gives = { λ s e. e ≡ slot_entity s };
 
-    // A slot of another kind gets a length that no entity has, so that its table lacks the form. No `TryFrom` for the kind: it
-    // and its number are both types of other crates.
+    // The numbers of the kinds are C's. A slot of another kind is no error here: it gets a length that no entity has, so that its
+    // table lacks the form.
     fn from(s: HubSlot) -> Entity {
         let (kind, len) = match s.kind {
             0 => (Kind::Free, s.len),
@@ -118,8 +118,8 @@ pub fn struct_of(t: &Table) -> HubTable
     }
 }
 
-// The same with no frame of its own, for a caller whose own is small. One of the two alone, and `struct_of` calling this one,
-// miss the stack that hub.h promises: each was tried.
+// The same, left to be inlined, for show, loading and the empty table: over `struct_of`, tried, show and loading miss the stack
+// that hub.h promises.
 pub fn struct_here(table: &Table) -> HubTable
     ensures { result ≡ struct_of table.now }
 {

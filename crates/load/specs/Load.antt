@@ -29,13 +29,6 @@ unfoldable pub refuse_at : Refusal → Option ℕ → Verdict → Verdict
 refuse_at r None v = v
 refuse_at r (Some n) v = Err (record { refusal = r; line = n })
 
--- the checks behind that of the length, by the lines that they find; and all of them
-abbrev pub checks : Option ℕ → Option ℕ → Option ℕ → Verdict
-checks bad twice breaks = refuse_at BadLine bad (refuse_at SlotTwice twice (refuse_at EntityBreaksGroup breaks (Ok tt)))
-
-unfoldable pub verdict_by : List ℕ → Option ℕ → Option ℕ → Verdict
-verdict_by text twice breaks = cond (ltb 65535 (length text)) (Err (record { refusal = TextTooLong; line = 0 })) (checks (bad_line text) twice breaks)
-
 unfoldable pub verdict_of : List ℕ → Verdict
 verdict_of text =
     cond (ltb 65535 (length text)) (Err (record { refusal = TextTooLong; line = 0 }))

@@ -1,11 +1,12 @@
 // Loading a table from its text: 14 to 17.
 #![tactic(auto)]
 
-ghost use Rattle.std.specs.Prelude.{◌≡◌, cond, [], ltb, length, Ok};
+ghost use Rattle.std.specs.Prelude.{◌≡◌, [], Ok};
+ghost use Rattle.rules.specs.declared.Refusal.TheVariants.{BadLine, SlotTwice, EntityBreaksGroup};
 ghost use Rattle.monitor.specs.Table.{empty_table};
 ghost use Rattle.textblocks.specs.Blocks.{lines_at, bad_line};
 ghost use Rattle.load.specs.Tables.{groups_from, empty_with, none_stored, fill, groups_in, stored, entities_on};
-ghost use Rattle.load.specs.Load.{verdict_number, verdict_line, refuse_at, checks, verdict_by, load_of};
+ghost use Rattle.load.specs.Load.{verdict_number, verdict_line, refuse_at, load_of};
 
 use monitor::Table;
 use rows::EntityColumns;
@@ -110,52 +111,32 @@ fn refuse_at(refusal: Refusal, line: Option<usize>) -> Result<(), Fault>
     }
 }
 
-// What the lines of a text say, in the order of the checks, by what storing its entities found.
+// What the checks of a text that is not too long say, in their order.
 fn verdict(text: &[u8], marks: Marks) -> Result<(), Fault>
-    ensures { result ≡ checks (bad_line text.now) marks.twice marks.breaks }
+    ensures { result ≡ refuse_at BadLine (bad_line text.now) (refuse_at SlotTwice marks.twice (refuse_at EntityBreaksGroup marks.breaks (Ok tt))) }
 {
     refuse_at(Refusal::BadLine, textblocks::bad_line(text))?;
     refuse_at(Refusal::SlotTwice, marks.twice)?;
     refuse_at(Refusal::EntityBreaksGroup, marks.breaks)
 }
 
-fn is_long(text: &[u8]) -> bool
-    ensures { result ≡ ltb 65535 (length text.now) }
-{
-    65535 < text.len()
-}
-
-// A text that is not too long, and nothing in the place of one that is.
-fn unless_long(text: &[u8]) -> &[u8]
-    ensures { result.now ≡ cond (ltb 65535 (length text.now)) [] text.now }
-{
-    if is_long(text) { &text[..0] } else { text }
-}
-
-// What all checks of a text say.
-#[tactic(auto, unfolding(crate::specs::Load::verdict_by))]
-fn verdict_by(text: &[u8], marks: Marks) -> Result<(), Fault>
-    ensures { result ≡ verdict_by text.now marks.twice marks.breaks }
-{
-    if is_long(text) {
-        return Err(Fault {
-            refusal: Refusal::TextTooLong,
-            line: 0,
-        });
-    }
-    verdict(text, marks)
-}
-
-// Loads a text. The table is filled in place, and made empty in one place: a `Result` of it, or a way out for a text that is
-// too long, takes more stack than C is promised.
+// Loads a text. The table is filled in place: a `Result` of it takes more stack than C is promised.
 pub fn load(text: &[u8]) -> Loaded
     ensures { result ≡ load_of text.now }
 {
-    let short = unless_long(text);
+    if 65535 < text.len() {
+        return Loaded {
+            verdict: Err(Fault {
+                refusal: Refusal::TextTooLong,
+                line: 0,
+            }),
+            table: Table::empty(),
+        };
+    }
     let mut table = Table::empty();
-    groups_in(short, &mut table);
-    let marks = entities_in(short, &mut table);
-    match verdict_by(text, marks) {
+    groups_in(text, &mut table);
+    let marks = entities_in(text, &mut table);
+    match verdict(text, marks) {
         Ok(()) => Loaded {
             verdict: Ok(()),
             table,
