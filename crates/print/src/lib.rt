@@ -67,14 +67,14 @@ pub fn line_of(src: &[u8]) -> Line
     line
 }
 
-// The line of a call: its record, and the first n bytes of show's buffer.
-pub fn call_line(entry: [u8; records::SIZE], buffer: [u8; 64], n: usize) -> Line
-    ensures { result.items ≡ call_line entry (take n buffer) }
+// The line of a call: its record, and the bytes shown. Of at most 64 bytes shown it holds all.
+pub fn call_line(entry: [u8; records::SIZE], shown: &[u8]) -> Line
+    ensures { result.items ≡ take line_size (call_line entry shown.now) }
 {
     let mut line = Line::new();
     push_hex(&mut line, &entry);
     push_bytes(&mut line, b" ");
-    push_data(&mut line, handing::front(&buffer, n));
+    push_data(&mut line, shown);
     push_bytes(&mut line, b"\n");
     line
 }

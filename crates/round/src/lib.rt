@@ -22,9 +22,9 @@ pub trait Made {
     fn most() -> usize
         ensures { result ≡ making.most };
 
-    // What is made of a call: of its record, and of the first n bytes of its buffer.
-    fn line(entry: [u8; records::SIZE], buffer: [u8; 64], n: usize) -> Line
-        ensures { result.items ≡ making.made entry (take n buffer) };
+    // What is made of a call: of its record, and of the bytes shown. Of at most 64 bytes shown that is all.
+    fn line(entry: [u8; records::SIZE], shown: &[u8]) -> Line
+        ensures { result.items ≡ take making.most (making.made entry shown.now) };
 
     ghost short: { IsShort making };
 }
@@ -41,8 +41,8 @@ impl Made for Lines {
         162
     }
 
-    fn line(entry: [u8; records::SIZE], buffer: [u8; 64], n: usize) -> Line {
-        print::call_line(entry, buffer, n)
+    fn line(entry: [u8; records::SIZE], shown: &[u8]) -> Line {
+        print::call_line(entry, shown)
     }
 }
 
@@ -58,7 +58,7 @@ impl Made for Entries {
         records::SIZE
     }
 
-    fn line(entry: [u8; records::SIZE], _buffer: [u8; 64], _n: usize) -> Line {
+    fn line(entry: [u8; records::SIZE], _shown: &[u8]) -> Line {
         print::line_of(&entry)
     }
 }
@@ -89,7 +89,10 @@ fn performed<M: Made>(table: Table, call: Call, put: Data) -> Played
     let reply = table.perform(call, handing::front(&bytes, put.len), &mut buffer);
     let answer = reply.answer;
     let entry = answer.entry;
-    let line = M::line(entry, buffer, bytes_shown(call, entry[4]));
+    let line = M::line(
+        entry,
+        handing::front(&buffer, bytes_shown(call, entry[4])),
+    );
     Played {
         table: reply.table,
         line,

@@ -1,7 +1,9 @@
 use mathlib.Core.Path.{ap, ap₂, ◌∙◌}
 use mathlib.Core.List.{List}
 use Prim.Native.Nat.{ℕ}
-use lib.ListN.{take}
+use native.Mathlib.Omega.{arith}
+use lib.ListN.{length, take, length-take}
+use Rattle.std.proofs.lemmas.List.{take_all}
 use Rattle.label.specs.Calls.{call_with}
 use Rattle.callrows.specs.Calls.{show_buffer}
 use Rattle.monitor.specs.Calls.{reply, buffer_after}
@@ -14,7 +16,9 @@ pub returns : goal.returns
 unfolding show_buffer
 returns g c =
     let m = g.M.Made.making in let a = c.args in let r = c.perform-reply.result in let b = c.perform-reply.new.out in
-    let l = c.line-line.ensures ∙ ap (λ (n : ℕ). m.made r.answer.entry (take n b)) c.bytes_shown.ensures in
+    let s = c.front-2 in
+    let whole = take_all m.most (m.made r.answer.entry s.result.now) (g.met.M.Made.short r.answer.entry s.result.now (omega arith) (omega (arith, ap length s.ensures.0, length-take c.bytes_shown.result b))) in
+    let l = c.line-line.ensures ∙ whole ∙ ap (m.made r.answer.entry) s.ensures.0 ∙ ap (λ (n : ℕ). m.made r.answer.entry (take n b)) c.bytes_shown.ensures in
     (λ z. record { table = r.table; line = record { items = l z } })
     ∙ ap₂ (played_from m a.call)
     (c.perform-reply.ensures.value ∙ ap (λ (l : List ℕ). reply a.table (call_with a.call l show_buffer)) c.front.ensures.0)
