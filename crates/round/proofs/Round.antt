@@ -8,6 +8,7 @@ use Rattle.std.specs.Option.{option_or, option_map}
 use Prim.Native.Nat.{ℕ, zero, suc, ◌+◌, ◌*◌, ◌-◌, ◌≤◌, ◌<◌}
 use native.Mathlib.Nat.{suc-mul}
 use native.Mathlib.Omega.{arith}
+use Rattle.std.proofs.Math.Nat.{le_of_eq}
 use lib.Dec.{eqb, ltb}
 use lib.ListN.{length, drop, length-take}
 use borrow.Author.Tests.{eqb-true, ltb-true, ltb-false, lt-ltb, le-ltb}
@@ -31,10 +32,10 @@ use Rattle.load.specs.Load.{Verdict, verdict_of, load_of}
 use Rattle.textblocks.specs.CallsIn.{calls_from, call_columns_in, calls_of, call_at}
 use Rattle.load.proofs.Accepted.{bad_none}
 use Rattle.textblocks.proofs.Laws.{rows_cut, rows-bad, rows_step}
+use Rattle.print.proofs.Laws.{line-most}
 use Rattle.chunks.specs.Chunks.{Bounded, onto, chunk_from, chunk, ChunksAdvance}
 use Rattle.chunks.proofs.Chunks.{goes_room, one_taken, none_taken, none_concat, no_piece, chunk_then, chunks_join, chunks_advance}
 use Rattle.round.specs.Played.{Making, lines, entries, IsShort, made_of, played}
-use Rattle.round.specs.Short.{lines_short, entries_short}
 use Rattle.round.specs.Round.{first_at, call_pieces, answer_line, output_with, output_of, round_of, names_line, OutputRuns, OutputInChunks, RecordsRun}
 use Rattle.round.proofs.Calls.{played_is, piece_most}
 
@@ -201,7 +202,7 @@ module _ (text : List ℕ) (m : Making) (short : IsShort m) where
 
 pub records_run : RecordsRun
 records_run text room t e h =
-    let r = calls_ran text entries entries_short 10922 room t e (omega (arith, text_most text e)) (omega arith) in
+    let r = calls_ran text entries (λ entry shown e h. le_of_eq e) 10922 room t e (omega (arith, text_most text e)) (omega arith) in
     (r.bytes, r.table, r.all)
 
 -- all lines are one chunk of a buffer that is large enough
@@ -210,9 +211,9 @@ round-runs text e =
     let P = call_pieces text lines in
     let s : ℕ × Table = (first_at text, (load_of text).table) in
     let c = chunk P (length text * 162) s in
-    let r = calls_ran text lines lines_short (length text) (length text * 162) (load_of text).table e (omega arith) (omega arith) in
+    let r = calls_ran text lines line-most (length text) (length text * 162) (load_of text).table e (omega arith) (omega arith) in
     ap (λ (x : List ℕ × (ℕ × Table)). x.0)
-    (chunk_then P (call_bounded text lines lines_short) (P.left s) (length text * 162) s (omega arith) ∙ ap (onto c.0) (none_concat P (P.left c.1) c.1 (le-ltb _ _ r.all)))
+    (chunk_then P (call_bounded text lines line-most) (P.left s) (length text * 162) s (omega arith) ∙ ap (onto c.0) (none_concat P (P.left c.1) c.1 (le-ltb _ _ r.all)))
     ∙ append-nil c.0 ∙ r.bytes
 
 pub output_runs : OutputRuns
@@ -225,4 +226,4 @@ output_runs text = go (verdict_of text) refl
 pub output_in_chunks : OutputInChunks
 output_in_chunks text room h =
     ap (λ (r : List ℕ × (ℕ × Table)). output_with text r.0)
-    (chunks_join (call_pieces text lines) (call_bounded text lines lines_short) room (first_at text, (load_of text).table) h)
+    (chunks_join (call_pieces text lines) (call_bounded text lines line-most) room (first_at text, (load_of text).table) h)

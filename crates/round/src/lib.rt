@@ -2,11 +2,12 @@
 #![tactic(auto)]
 
 ghost use Rattle.std.specs.Prelude.{◌≡◌, [], length, take};
+ghost use Rattle.std.proofs.Math.Nat.{le_of_eq};
 ghost use Rattle.rules.specs.Record.{filled};
+ghost use Rattle.print.proofs.Laws.{line-most};
 ghost use Rattle.chunks.specs.Chunks.{chunk};
 ghost use Rattle.round.specs.Played.{Making, lines, entries, IsShort, bytes_shown, performed, as_played, played};
 ghost use Rattle.round.specs.Round.{first_at, call_pieces, as_calls_chunk};
-ghost use Rattle.round.specs.Short.{lines_short, entries_short};
 
 use callrows::CallRow;
 use monitor::Table;
@@ -35,7 +36,7 @@ pub struct Lines;
 impl Made for Lines {
     ghost making = { lines };
 
-    ghost short = { lines_short };
+    ghost short = { line-most };
 
     fn most() -> usize {
         162
@@ -52,7 +53,7 @@ pub struct Entries;
 impl Made for Entries {
     ghost making = { entries };
 
-    ghost short = { entries_short };
+    ghost short = { λ entry shown e h. le_of_eq e };
 
     fn most() -> usize {
         records::SIZE
