@@ -20,7 +20,8 @@ pub fn append(line: &[u8], out: &mut [u8], n: usize) -> Option<usize>
     Some(end)
 }
 
-// A chunk of a list's lines: the place of the next record, and how many bytes of a lent buffer they take.
+// A chunk of a list's lines: the place of the next record, and how many bytes of a lent buffer they take. It holds no bytes:
+// the buffer is the caller's, who goes on at that place.
 #[derive(Clone, Copy)]
 pub struct ListChunk {
     pub at: usize,
@@ -32,6 +33,7 @@ pub fn record_lines(list: &[u8], from: usize, out: &mut [u8]) -> ListChunk
     ensures value { result ≡ as_list_chunk (chunk (record_pieces list.now) (length out.old) from) }
     ensures out_after { out.new ≡ filled (chunk (record_pieces list.now) (length out.old) from).0 out.old }
 {
+    // Counted beside the records, since the chunk answers both.
     let mut at = from;
     let mut len = 0;
     for record in list[from.min(list.len())..].chunks_exact(records::SIZE) {

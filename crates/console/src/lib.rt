@@ -1,10 +1,17 @@
-// What hubcalls and hubaudit do alike: they read a text from standard input, and say so where it cannot be read or is refused.
+// What hubcalls and hubaudit do alike: they look for arguments, read a text from standard input, and say so where it cannot be
+// read or is refused.
 #![tactic(auto)]
 
 ghost use Rattle.std.specs.Prelude.{◌≡◌, IfSome};
 ghost use Rattle.load.specs.Load.{load_of};
 
 use monitor::Table;
+use std::env::{Env, FillError};
+
+// Whether the program was started with an argument at a place; its name stands at 0. Which there are is no fact of the logic.
+pub fn has_argument(rt: &HostRuntime, at: usize) -> bool {
+    !matches!(rt.arg(at, &mut [0u8; 1]), Err(FillError::NotPresent))
+}
 
 // A text that is not refused, and the table that it loads into.
 #[derive(Clone, Copy)]
@@ -13,7 +20,8 @@ pub struct Accepted<'a> {
     pub table: Table,
 }
 
-// Reads a text into a buffer, as much of it as the buffer takes. None where there is no text to go on with, which is then said.
+// Reads a text into a buffer, as much of it as the buffer takes. None where there is no text to go on with, which is then said:
+// that a read fails is no fact of the logic, so no clause says when.
 pub fn read_text<'a>(rt: &HostRuntime, buf: &'a mut [u8]) -> Option<Accepted<'a>>
     ensures verdict { IfSome result (λ r. (load_of r.text.now).verdict ≡ Ok tt) }
     ensures table { IfSome result (λ r. r.table ≡ (load_of r.text.now).table) }

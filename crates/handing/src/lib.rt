@@ -1,4 +1,4 @@
-// What is handed back of a lent buffer: its filled front part.
+// Front parts: the first of some items, and what is handed back of a lent buffer.
 #![tactic(auto)]
 
 ghost use Rattle.std.specs.Prelude.{◌≡◌, take};

@@ -13,7 +13,8 @@ ghost use Rattle.hubffi_c.specs.Answers.{answered, reply_to, audit_answer, loade
 use layout::HubTable;
 use monitor::{Reply, Table};
 
-// What a call hands back: the next table, the number returned, and the record.
+// What a call hands back: the next table, the number returned, and the record. Here and below a number, and a line, is C's: 0
+// where nothing is refused.
 #[repr(C)]
 #[derive(Clone, Copy)]
 pub struct HubReply {

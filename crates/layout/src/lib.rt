@@ -12,7 +12,7 @@ use rules::Kind;
 use std::array;
 
 // What stands in a slot. The kind is 0 for a free slot, 1 for an item, 2 for a program; a table with another kind lacks the
-// form.
+// form. Kind and labels are C's numbers: a `From` between Label and u64 would stand in a crate below, for C alone.
 #[repr(C)]
 #[derive(Clone, Copy)]
 pub struct HubSlot {

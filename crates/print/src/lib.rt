@@ -11,8 +11,8 @@ use arrayvec::ArrayVec;
 // A line. The longest is that of a record and 64 bytes shown.
 pub type Line = ArrayVec<u8, 162>;
 
-// The functions from here to push_decimal put something behind a line, as much of it as has room. By a reference: a line that goes
-// in and comes back by value is copied at each byte.
+// Each push puts something behind a line, as much of it as has room. By a reference: a line that goes in and comes back by value
+// is copied at each byte.
 
 fn push_bytes(line: &mut Line, src: &[u8])
     ensures { line.new.items ≡ line_with line.old.items src.now }
@@ -22,6 +22,7 @@ fn push_bytes(line: &mut Line, src: &[u8])
         .unwrap();
 }
 
+// `char::from_digit` answers a char, and as an Option, which is no plainer.
 fn digit_text(n: u8) -> u8
     requires { n < 16 }
     ensures { result ≡ digit_text n }
@@ -32,7 +33,7 @@ fn digit_text(n: u8) -> u8
     }
 }
 
-// Neither this nor a whole line is written by a Display: no clause of write! says when it succeeds, and these cannot fail.
+// Neither this nor a whole line is written by a Display: no clause of write! says when it succeeds, and a push always does.
 fn push_hex(line: &mut Line, src: &[u8])
     ensures { line.new.items ≡ line_with line.old.items (hex_text src.now) }
 {
@@ -89,6 +90,7 @@ pub fn record_line(src: &[u8]) -> Line
     record
 }
 
+// The number, here and below, is any of a byte, as callers have it: a `Refusal` would take fewer, and ask more of them.
 fn refused(number: u8) -> Line
     ensures { result.items ≡ refused_text ++ decimal_text number }
 {

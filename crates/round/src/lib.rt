@@ -90,10 +90,7 @@ fn performed<M: Made>(table: Table, call: Call, put: Data) -> Played
     let reply = table.perform(call, handing::front(&bytes, put.len), &mut buffer);
     let answer = reply.answer;
     let entry = answer.entry;
-    let line = M::line(
-        entry,
-        handing::front(&buffer, bytes_shown(call, entry[4])),
-    );
+    let line = M::line(entry, handing::front(&buffer, bytes_shown(call, entry[4])));
     Played {
         table: reply.table,
         line,
@@ -121,7 +118,8 @@ pub fn first_at(text: &[u8]) -> usize
 }
 
 // A chunk of a text's calls, played: the table after them, the place of the next line, and how many bytes of a lent buffer
-// they take. All were played where that place is the text's end.
+// they take. All were played where that place is the text's end. It holds no bytes: the buffer is the caller's, who goes on at
+// that place.
 #[derive(Clone, Copy)]
 pub struct CallsChunk {
     pub table: Table,

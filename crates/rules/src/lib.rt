@@ -53,6 +53,7 @@ pub enum Refusal {
 }
 
 impl Refusal {
+    // By its name, since a `u8::from` would not say which number it gives.
     pub fn number(self) -> u8
         ensures { result ≡ number self }
     {
@@ -61,7 +62,8 @@ impl Refusal {
 }
 
 // The nine calls by what each names as one byte: the caller, then the other's slot, the set field and the tag, as far as it
-// uses them. The bytes put and the buffer lent stand beside it.
+// uses them. The bytes put and the buffer lent stand beside it. The set field is any of 256 numbers, since a call gives it as one
+// byte: refusal 2 is for those without a meaning.
 #[derive(Clone, Copy)]
 pub enum Call {
     Put(u8),
