@@ -23,13 +23,12 @@ use Rattle.monitor.specs.Calls.{reply, buffer_after}
 use Rattle.values.proofs.Laws.{take-bytes}
 use Rattle.callrows.specs.Calls.{show_buffer, CallSaid, call_in, as_call_row}
 use Rattle.callrows.specs.declared.CallRow.{CallRow}
-use Rattle.round.specs.declared.Played.{Played}
-use Rattle.round.specs.Played.{Making, IsShort, bytes_shown, made_of, performed, as_played, played}
+use Rattle.round.specs.Played.{Making, IsShort, bytes_shown, made_of, performed, played}
 
 -- ---- what the code makes of a reply and of the buffer
 
-abbrev pub played_from : Making → Named → Reply → List ℕ → Played
-played_from m c r buffer = record { table = r.table; line = record { items = m.made r.answer.entry (take (bytes_shown c (get_or r.answer.entry 4 0)) buffer) } }
+abbrev pub played_from : Making → Named → Reply → List ℕ → List ℕ × Table
+played_from m c r buffer = (m.made r.answer.entry (take (bytes_shown c (get_or r.answer.entry 4 0)) buffer), r.table)
 
 module _ (t : Table) where
   -- the record's byte 4 is the number of bytes shown, in a show
@@ -44,13 +43,13 @@ module _ (t : Table) where
   len_is (Release i j) bytes = refl
   len_is (Hand i j n p) bytes = refl
 
-  pub performed_is : (m : Making) (c : Named) (bytes : List ℕ) → played_from m c (reply t (call_with c bytes show_buffer)) (buffer_after t c bytes show_buffer) ≡ as_played (performed m t c bytes)
+  pub performed_is : (m : Making) (c : Named) (bytes : List ℕ) → played_from m c (reply t (call_with c bytes show_buffer)) (buffer_after t c bytes show_buffer) ≡ performed m t c bytes
   unfolding performed reply buffer_after
   performed_is m c bytes =
       let k = call_with c bytes show_buffer in
       let a = answer hub t k in
       let e = ap (λ (n : ℕ). take n (buffer_after t c bytes show_buffer)) (len_is c bytes) ∙ take-append_seam a.part _ in
-      λ z. record { table = step hub t k; line = record { items = m.made a.entry (e z) } }
+      λ z. (m.made a.entry (e z), step hub t k)
 
   -- ---- the call of a line
 

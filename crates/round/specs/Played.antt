@@ -12,7 +12,6 @@ use Rattle.monitor.specs.Table.{hub}
 use Rattle.callrows.specs.declared.CallRow.{CallRow}
 use Rattle.callrows.specs.Calls.{show_buffer}
 use Rattle.print.specs.Lines.{call_line, line_size}
-use Rattle.round.specs.declared.Played.{Played}
 
 -- the bytes of a show are those that it moves; another call shows none
 abbrev pub bytes_shown : Named → ℕ → ℕ
@@ -47,6 +46,3 @@ performed m t c bytes = (made_of m t (call_with c bytes show_buffer), step hub t
 abbrev pub played : Making → Table → Option CallRow → List ℕ × Table
 played m t None = ([], t)
 played m t (Some row) = performed m t row.call (take row.put.len row.put.bytes)
-
-abbrev pub as_played : List ℕ × Table → Played
-as_played r = record { table = r.1; line = record { items = r.0 } }

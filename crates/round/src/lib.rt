@@ -6,7 +6,7 @@ ghost use Rattle.std.proofs.Math.Nat.{le_of_eq};
 ghost use Rattle.rules.specs.Record.{filled};
 ghost use Rattle.print.proofs.Laws.{line-most};
 ghost use Rattle.chunks.specs.Chunks.{chunk};
-ghost use Rattle.round.specs.Played.{Making, lines, entries, IsShort, bytes_shown, performed, as_played, played};
+ghost use Rattle.round.specs.Played.{Making, lines, entries, IsShort, bytes_shown, performed, played};
 ghost use Rattle.round.specs.Round.{first_at, call_pieces, as_calls_chunk};
 
 use callrows::CallRow;
@@ -64,13 +64,6 @@ impl Made for Entries {
     }
 }
 
-// The table after a row, and what is made of the row.
-#[derive(Drop)]
-pub struct Played {
-    pub table: Table,
-    pub line: Line,
-}
-
 // How many bytes a call shows, of those that it moves.
 fn bytes_shown(call: Call, moved: u8) -> usize
     ensures { result ≡ bytes_shown call moved }
@@ -81,32 +74,28 @@ fn bytes_shown(call: Call, moved: u8) -> usize
     }
 }
 
-// Plays a call with the bytes put.
-fn performed<M: Made>(table: Table, call: Call, put: Data) -> Played
-    ensures { result ≡ as_played (performed M.making table call (take put.len put.bytes)) }
+// Plays a call with the bytes put, and answers what is made of it.
+fn performed<M: Made>(table: &mut Table, call: Call, put: Data) -> Line
+    ensures line { result.items ≡ (performed M.making table.old call (take put.len put.bytes)).0 }
+    ensures after { table.new ≡ (performed M.making table.old call (take put.len put.bytes)).1 }
 {
     let bytes = put.bytes;
     let mut buffer = [0u8; 64];
     let reply = table.perform(call, handing::front(&bytes, put.len), &mut buffer);
     let answer = reply.answer;
     let entry = answer.entry;
-    let line = M::line(entry, handing::front(&buffer, bytes_shown(call, entry[4])));
-    Played {
-        table: reply.table,
-        line,
-    }
+    *table = reply.table;
+    M::line(entry, handing::front(&buffer, bytes_shown(call, entry[4])))
 }
 
 // Plays the call of a row; of one that is none nothing is made, and the table stays as it is.
-fn play<M: Made>(table: Table, row: Option<CallRow>) -> Played
-    ensures { result ≡ as_played (played M.making table row) }
+fn play<M: Made>(table: &mut Table, row: Option<CallRow>) -> Line
+    ensures line { result.items ≡ (played M.making table.old row).0 }
+    ensures after { table.new ≡ (played M.making table.old row).1 }
 {
     match row {
         Some(row) => performed::<M>(table, row.call, row.put),
-        None => Played {
-            table,
-            line: Line::new(),
-        },
+        None => Line::new(),
     }
 }
 
@@ -139,9 +128,9 @@ pub fn play_calls<M: Made>(text: &[u8], from: usize, start: Table, out: &mut [u8
     let mut len = 0;
     // An iterator over the lines would count the place beside them: the next chunk begins there.
     while at < text.len() && M::most() <= out.len() - len {
-        let played = play::<M>(table, callrows::call_row(columns, text::line_at(text, at)));
-        len = chunks::append(&played.line, out, len).unwrap();
-        table = played.table;
+        let row = callrows::call_row(columns, text::line_at(text, at));
+        let line = play::<M>(&mut table, row);
+        len = chunks::append(&line, out, len).unwrap();
         at = text::next_line(text, at);
     }
     CallsChunk { table, at, len }

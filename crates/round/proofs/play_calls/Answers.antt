@@ -16,17 +16,16 @@ use Rattle.callrows.specs.declared.CallRow.{CallRow}
 use Rattle.callrows.specs.Calls.{call_of, as_call_row}
 use Rattle.textblocks.specs.CallsIn.{call_columns_in, call_at}
 use Rattle.chunks.proofs.Chunks.{filling_length, filling_more, filling_done, filling_full, has_room}
-use Rattle.round.specs.declared.Played.{Played}
-use Rattle.round.specs.Played.{Making, IsShort, as_played, played}
-use Rattle.round.specs.Round.{played_at, call_pieces}
+use Rattle.round.specs.Played.{Making, IsShort, played}
+use Rattle.round.specs.Round.{call_pieces}
 use Rattle.round.proofs.Round.{call_bounded}
 use Rattle.round.proofs.play_calls.Goals as goal
 
--- what is played at a place
-row_is : (m : Making) (x : List ℕ) (at : ℕ) (t : Table) (cs : CallColumns) (line : List ℕ) (row : Option CallRow) (p : Played)
-    → cs ≡ call_columns_in x → line ≡ line_at x at → row ≡ option_map as_call_row (call_of cs (fields_in line)) → p ≡ as_played (played m t row) → p ≡ as_played (played_at m x at t)
+-- the row at a place
+row_is : (x : List ℕ) (at : ℕ) (cs : CallColumns) (line : List ℕ) (row : Option CallRow)
+    → cs ≡ call_columns_in x → line ≡ line_at x at → row ≡ option_map as_call_row (call_of cs (fields_in line)) → row ≡ call_at x (call_columns_in x) at
 unfolding call_at
-row_is m x at t cs line row p a b e q = q ∙ ap (λ (r : Option CallRow). as_played (played m t r)) (e ∙ ap₂ (λ (c : CallColumns) (l : List ℕ). option_map as_call_row (call_of c (fields_in l))) a b)
+row_is x at cs line row a b e = e ∙ ap₂ (λ (c : CallColumns) (l : List ℕ). option_map as_call_row (call_of c (fields_in l))) a b
 
 -- it has room where the longest has
 room_for : (m : Making) (short : IsShort m) (x : List ℕ) (at : ℕ) (t : Table) (line : List ℕ) (n len : ℕ)
@@ -36,8 +35,8 @@ room_for m short x at t line n len e h = omega (arith, ap length e, (call_bounde
 pub unwrap-len-requires : goal.unwrap-len-requires
 unwrap-len-requires g c =
     let m = g.M.Made.making in let l = c.loop-at in let x = c.args.text.now in let line = c.deref.result.now in
-    let p = row_is m x l.at l.table _ _ _ _ c.call_columns_in-columns.ensures c.line_at.ensures c.call_row.ensures c.play-played.ensures in
-    let is = c.deref.ensures.0 ∙ ap (λ (y : Played). y.line.items) p in
+    let p = row_is x l.at _ _ _ c.call_columns_in-columns.ensures c.line_at.ensures c.call_row-row.ensures in
+    let is = c.deref.ensures.0 ∙ c.play-line.ensures.line ∙ ap (λ (r : Option CallRow). (played m l.table r).0) p in
     let most : l.len + m.most ≤ length l.out = omega (arith, l.invariant.fits, filling_length l.invariant, c.most.ensures, c.if-most-out.true) in
     let e = c.append.ensures.value ∙ (has_room line l.out l.len (room_for m g.met.M.Made.short x l.at l.table line l.len (length l.out) is most)).1 in
     search rules
@@ -48,13 +47,13 @@ loop-at-smaller g c = omega (arith, c.loop-at-test.true, c.next_line-at.ensures,
 pub loop-at-preserved : goal.loop-at-preserved
 loop-at-preserved g c =
     let m = g.M.Made.making in let l = c.loop-at in let x = c.args.text.now in let line = c.deref.result.now in
-    let p = row_is m x l.at l.table _ _ _ _ c.call_columns_in-columns.ensures c.line_at.ensures c.call_row.ensures c.play-played.ensures in
-    let is = c.deref.ensures.0 ∙ ap (λ (y : Played). y.line.items) p in
+    let p = row_is x l.at _ _ _ c.call_columns_in-columns.ensures c.line_at.ensures c.call_row-row.ensures in
+    let is = c.deref.ensures.0 ∙ c.play-line.ensures.line ∙ ap (λ (r : Option CallRow). (played m l.table r).0) p in
     let most : l.len + m.most ≤ length l.out = omega (arith, l.invariant.fits, filling_length l.invariant, c.most.ensures, c.if-most-out.true) in
     let w = has_room line l.out l.len (room_for m g.met.M.Made.short x l.at l.table line l.len (length l.out) is most) in
     let some : ◌≡◌ {A = Option ℕ} (Some c.unwrap-len.result) (Some (l.len + length line)) = sym c.unwrap-len.ensures ∙ c.append.ensures.value ∙ w.1 in
     let end : c.unwrap-len.result ≡ l.len + length line = cc in
-    filling_more l.invariant (lt-ltb _ _ c.loop-at-test.true) most (c.append.ensures.after ∙ w.0 ∙ ap (sets l.out l.len) is) (end ∙ ap (λ (y : List ℕ). l.len + length y) is) (λ j. (c.next_line-at.ensures j, (p j).table))
+    filling_more l.invariant (lt-ltb _ _ c.loop-at-test.true) most (c.append.ensures.after ∙ w.0 ∙ ap (sets l.out l.len) is) (end ∙ ap (λ (y : List ℕ). l.len + length y) is) (λ j. (c.next_line-at.ensures j, (c.play-line.ensures.after ∙ ap (λ (r : Option CallRow). (played m l.table r).1) p) j))
 
 pub returns-else-most-out : goal.returns-else-most-out
 returns-else-most-out g c =
