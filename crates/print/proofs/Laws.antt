@@ -4,7 +4,7 @@ use Rattle.std.proofs.Common.{◌≡◌, ◌≢◌, refl, sym, ap, ◌∙◌, �
 use Rattle.std.proofs.lemmas.List.{append-nil, take_all, at_drop_more, at_drop_all}
 use Rattle.std.proofs.lemmas.Fmt.{AppendsLastDigit, decimal_from_appends, length-decimal-le, length-decimal-le_succ}
 use Rattle.std.specs.Fmt.{decimal}
-use Rattle.print.specs.Lines.{digit_text, hex_text, data_text, call_line, digits_text, decimal_text, line_size, line_with}
+use Rattle.print.specs.Lines.{digit_text, hex_text, data_text, call_line, digits_text, decimal_text, line_size, line_with, CallLinesWhole}
 
 -- ---- bytes behind a line
 
@@ -80,6 +80,9 @@ pub line-most : (entry shown : List ℕ) → length entry ≡ 16 → length show
 unfolding call_line
 line-most entry shown e h =
     omega (arith, length-append (hex_text entry) (32 ∷ (data_text shown ++ (10 ∷ []))), length-append (data_text shown) (10 ∷ []), length-hex entry, data_most shown h)
+
+pub call_lines_whole : CallLinesWhole
+call_lines_whole entry shown e h = take_all line_size (call_line entry shown) (line-most entry shown e h)
 
 -- ---- decimal numbers
 

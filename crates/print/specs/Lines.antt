@@ -1,6 +1,8 @@
 -- Document 01, 'A watering round through hubcalls': the lines that the program prints.
 -- Assumes nothing.
-use Rattle.std.specs.Prelude.{ℕ, zero, suc, ◌+◌, ◌-◌, ◌/◌, ◌%◌, cond, List, [], ◌∷◌, ◌++◌, length, take, ltb}
+use Rattle.std.specs.Prelude.{◌≡◌, ◌≤◌, ℕ, zero, suc, ◌+◌, ◌-◌, ◌/◌, ◌%◌, cond, List, [], ◌∷◌, ◌++◌, length, take, ltb}
+use Rattle.rules.specs.Record.{record_size}
+use Rattle.label.specs.Words.{words}
 use Rattle.text.specs.Ascii.{ascii}
 
 -- the lower-case digit of a number below 16
@@ -56,3 +58,7 @@ line_size = 162
 -- a line with bytes behind it, as many as it has room for
 abbrev pub line_with : List ℕ → List ℕ → List ℕ
 line_with x l = x ++ take (line_size - length x) l
+
+-- The line of a call that shows at most 64 bytes is whole
+abbrev pub CallLinesWhole : Type 0
+CallLinesWhole = (entry shown : List ℕ) → length entry ≡ record_size words → length shown ≤ 64 → take line_size (call_line entry shown) ≡ call_line entry shown
