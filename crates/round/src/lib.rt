@@ -23,7 +23,7 @@ pub trait Made {
     fn most() -> usize
         ensures { result ≡ making.most };
 
-    // What is made of a call: of its record, and of the bytes shown. Of at most 64 bytes shown that is all.
+    // What is made of a call: of its record, and of the bytes shown. Where these are at most 64 nothing is cut, by the law `short`.
     fn line(entry: [u8; records::SIZE], shown: &[u8]) -> Line
         ensures { result.items ≡ take making.most (making.made entry shown.now) };
 
