@@ -7,6 +7,7 @@ ghost use Rattle.values.specs.Answers.{as_data};
 ghost use Rattle.callrows.specs.Calls.{call_names, call_columns, call_named, with_uses, uses_of, number_in, fits, data_if, call_of, as_call_row};
 
 use rules::Call;
+use text::Row;
 use values::Data;
 
 // The columns of the calls, found in their line of names.
@@ -157,16 +158,16 @@ fn data_if(used: bool, f: &[u8]) -> Option<Data>
 pub fn call_row(columns: CallColumns, row: &[u8]) -> Option<CallRow>
     ensures { result ≡ option_map as_call_row (call_of columns (fields_in row.now)) }
 {
-    let s = text::split(row);
-    if s.count != 6 {
+    let row = Row::split(row);
+    if row.count != 6 {
         return None;
     }
-    let caller = values::decimal(text::field(row, &s.at, columns.caller), 255)?;
-    let other = text::field(row, &s.at, columns.other);
-    let set = text::field(row, &s.at, columns.set);
-    let tag = text::field(row, &s.at, columns.tag);
+    let caller = values::decimal(row.field(columns.caller), 255)?;
+    let other = row.field(columns.other);
+    let set = row.field(columns.set);
+    let tag = row.field(columns.tag);
     let call = call_named(
-        text::field(row, &s.at, columns.call),
+        row.field(columns.call),
         caller,
         number(other),
         number(set),
@@ -176,6 +177,6 @@ pub fn call_row(columns: CallColumns, row: &[u8]) -> Option<CallRow>
     if !(fits(uses.other, other) && fits(uses.set, set) && fits(uses.tag, tag)) {
         return None;
     }
-    let put = data_if(uses.bytes, text::field(row, &s.at, columns.bytes))?;
+    let put = data_if(uses.bytes, row.field(columns.bytes))?;
     Some(CallRow { call, put })
 }

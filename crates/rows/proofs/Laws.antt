@@ -44,9 +44,9 @@ module _ (cs : EntityColumns) (row : List ℕ) where
   -- the fields by where a row has them
   pub row_entity : (split_of row).count ≡ 9
       → entity_of cs (fields_in row)
-      ≡ entity_by (decimal_of 31 (field_by row (split_of row).at cs.slot)) (data_of 64 (field_by row (split_of row).at cs.content)) (kind_named (field_by row (split_of row).at cs.kind))
-      (hex_set_of (field_by row (split_of row).at cs.sec)) (hex_set_of (field_by row (split_of row).at cs.int)) (hex_set_of (field_by row (split_of row).at cs.sa))
-      (hex_set_of (field_by row (split_of row).at cs.sd)) (hex_set_of (field_by row (split_of row).at cs.ia)) (hex_set_of (field_by row (split_of row).at cs.id))
+      ≡ entity_by (decimal_of 31 (field_by row (split_of row).starts cs.slot)) (data_of 64 (field_by row (split_of row).starts cs.content)) (kind_named (field_by row (split_of row).starts cs.kind))
+      (hex_set_of (field_by row (split_of row).starts cs.sec)) (hex_set_of (field_by row (split_of row).starts cs.int)) (hex_set_of (field_by row (split_of row).starts cs.sa))
+      (hex_set_of (field_by row (split_of row).starts cs.sd)) (hex_set_of (field_by row (split_of row).starts cs.ia)) (hex_set_of (field_by row (split_of row).starts cs.id))
   unfolding entity_of entity_in
   row_entity n =
       let h : length (fields_in row) ≡ 9 = omega (arith, count_is row) in

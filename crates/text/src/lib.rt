@@ -27,49 +27,56 @@ pub fn column(line: &[u8], name: &[u8]) -> usize
     line.split(|b| *b == 32).take_while(|h| *h != name).count()
 }
 
-// Where the fields of a row start, the first 15, and where one more would; and how many there are.
+// A row, split into its fields: where the first 15 start, and where one more would; and how many there are, which may be more.
 #[derive(Clone, Copy)]
-pub struct Starts {
-    pub at: [usize; 16],
+pub struct Row<'a> {
+    pub bytes: &'a [u8],
+    pub starts: [usize; 16],
     pub count: usize,
 }
 
-// Splits a row into its fields.
-pub fn split(row: &[u8]) -> Starts
-    ensures { result ≡ split_of row.now }
-{
-    let mut at = [0; 16];
-    let mut count = 0;
-    let mut next = 0;
-    for field in row.split(|b| *b == 32) {
-        next += field.len() + 1;
-        count += 1;
-        if count < 16 {
-            at[count] = next;
+impl<'a> Row<'a> {
+    pub fn split(bytes: &'a [u8]) -> Row<'a>
+        ensures same_bytes { result.bytes.now ≡ bytes.now }
+        ensures fields { record { starts = result.starts; count = result.count } ≡ split_of bytes.now }
+    {
+        let mut starts = [0; 16];
+        let mut count = 0;
+        let mut next = 0;
+        for field in bytes.split(|b| *b == 32) {
+            next += field.len() + 1;
+            count += 1;
+            if count < 16 {
+                starts[count] = next;
+            }
+        }
+        Row {
+            bytes,
+            starts,
+            count,
         }
     }
-    Starts { at, count }
-}
 
-// The field of a row in a column, by where the row's fields start: one of the first 15 columns; nothing in any other.
-pub fn field<'a>(row: &'a [u8], starts: &[usize; 16], k: usize) -> &'a [u8]
-    ensures { result.now ≡ field_by row.now starts.now k }
-{
-    if 15 <= k {
-        return &row[..0];
+    // The field in a column: one of the first 15; nothing in any other.
+    pub fn field(&self, k: usize) -> &'a [u8]
+        ensures { result.now ≡ field_by self.now.bytes.now self.now.starts k }
+    {
+        if 15 <= k {
+            return &self.bytes[..0];
+        }
+        let a = self.starts[k];
+        let b = self.starts[k + 1];
+        if b <= a {
+            return &self.bytes[..0];
+        }
+        if self.bytes.len() <= a {
+            return &self.bytes[..0];
+        }
+        if self.bytes.len() < b {
+            return &self.bytes[a..];
+        }
+        &self.bytes[a..b - 1]
     }
-    let a = starts[k];
-    let b = starts[k + 1];
-    if b <= a {
-        return &row[..0];
-    }
-    if row.len() <= a {
-        return &row[..0];
-    }
-    if row.len() < b {
-        return &row[a..];
-    }
-    &row[a..b - 1]
 }
 
 // Whether a line of names has as many columns as there are names, with a space between them, and one for each.

@@ -1,5 +1,5 @@
 use Rattle.std.proofs.Common.{sym, ap, ◌∙◌, arith, option_map}
-use Rattle.text.specs.declared.Starts.{Starts}
+use Rattle.text.specs.Split.{Starts}
 use Rattle.values.specs.declared.Data.{Data}
 use Rattle.values.proofs.Laws.{data_said}
 use Rattle.rows.specs.Entities.{as_entity_row}
@@ -8,9 +8,9 @@ use Rattle.rows.proofs.entity_row.Goals as goal
 
 -- `rows::entity_row` meets its contract. Assumes nothing.
 
-pub returns-then-s-ne9 : goal.returns-then-s-ne9
-returns-then-s-ne9 c =
-    ap (option_map as_entity_row) (sym (row_short c.args.columns c.args.row.now (omega (arith, ap (λ (s : Starts). s.count) c.split-s.ensures))))
+pub returns-then-row-ne9 : goal.returns-then-row-ne9
+returns-then-row-ne9 c =
+    ap (option_map as_entity_row) (sym (row_short c.args.columns c.args.row.now (omega (arith, ap (λ (s : Starts). s.count) c.split-row.ensures.fields))))
 
 pub returns : goal.returns
 returns c =
