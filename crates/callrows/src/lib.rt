@@ -3,7 +3,6 @@
 
 ghost use Rattle.std.specs.Prelude.{◌≡◌, option_map};
 ghost use Rattle.text.specs.Lines.{fields_in, names_once};
-ghost use Rattle.values.specs.Answers.{as_data};
 ghost use Rattle.callrows.specs.Calls.{call_names, call_columns, call_named, with_uses, uses_of, number_in, fits, data_if, call_of, as_call_row};
 
 use rules::Call;
@@ -31,7 +30,7 @@ pub struct Uses {
 }
 
 // What a line of the calls says: a call, and the bytes put.
-#[derive(Clone, Copy)]
+#[derive(Drop)]
 pub struct CallRow {
     pub call: Call,
     pub put: Data,
@@ -144,7 +143,7 @@ fn fits(used: bool, f: &[u8]) -> bool
 // Data where the call uses it, and `-` where it does not.
 #[tactic(auto, unfolding(crate::specs::Calls::data_if, values::specs::Values::data_of))]
 fn data_if(used: bool, f: &[u8]) -> Option<Data>
-    ensures { result ≡ option_map as_data (data_if used f.now) }
+    ensures { option_map (λ d. d.items) result ≡ data_if used f.now }
 {
     if used || text::same(f, b"-") {
         values::data_field(f, 255)

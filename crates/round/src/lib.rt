@@ -12,7 +12,6 @@ use callrows::CallRow;
 use monitor::Table;
 use print::Line;
 use rules::Call;
-use values::Data;
 
 // What is made of the calls.
 pub trait Made {
@@ -81,12 +80,11 @@ fn bytes_shown(call: Call, moved: u8) -> usize
 }
 
 // Plays a call with the bytes put.
-fn performed<M: Made>(table: Table, call: Call, put: Data) -> Played
-    ensures { result ≡ as_played (performed M.making table call (take put.len put.bytes)) }
+fn performed<M: Made>(table: Table, call: Call, put: &[u8]) -> Played
+    ensures { result ≡ as_played (performed M.making table call put.now) }
 {
-    let bytes = put.bytes;
     let mut buffer = [0u8; 64];
-    let reply = table.perform(call, handing::front(&bytes, put.len), &mut buffer);
+    let reply = table.perform(call, put, &mut buffer);
     let answer = reply.answer;
     let entry = answer.entry;
     let line = M::line(entry, buffer, bytes_shown(call, entry[4]));
@@ -101,7 +99,7 @@ fn play<M: Made>(table: Table, row: Option<CallRow>) -> Played
     ensures { result ≡ as_played (played M.making table row) }
 {
     match row {
-        Some(row) => performed::<M>(table, row.call, row.put),
+        Some(row) => performed::<M>(table, row.call, &row.put),
         None => Played {
             table,
             line: Line::new(),

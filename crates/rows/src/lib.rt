@@ -105,7 +105,7 @@ pub fn entity_row(columns: EntityColumns, row: &[u8]) -> Option<EntityRow>
         sd: values::hex_set(row.field(columns.sd))?,
         ia: values::hex_set(row.field(columns.ia))?,
         id: values::hex_set(row.field(columns.id))?,
-        len: content.len,
+        len: content.len(),
     };
     if !entity_formed(entity) {
         return None;
@@ -113,6 +113,6 @@ pub fn entity_row(columns: EntityColumns, row: &[u8]) -> Option<EntityRow>
     Some(EntityRow {
         slot,
         entity,
-        block: block::pad(&content.bytes),
+        block: block::pad(&content),
     })
 }

@@ -1,10 +1,7 @@
 use mathlib.Core.Path.{ap, ap₂, ◌∙◌}
-use mathlib.Core.List.{List}
 use Prim.Native.Nat.{ℕ}
 use lib.ListN.{take}
-use Rattle.label.specs.Calls.{call_with}
 use Rattle.callrows.specs.Calls.{show_buffer}
-use Rattle.monitor.specs.Calls.{reply, buffer_after}
 use Rattle.round.proofs.Calls.{played_from, performed_is}
 use Rattle.round.proofs.performed.Goals as goal
 
@@ -17,6 +14,6 @@ returns g c =
     let l = c.line-line.ensures ∙ ap (λ (n : ℕ). m.made r.answer.entry (take n b)) c.bytes_shown.ensures in
     (λ z. record { table = r.table; line = record { items = l z } })
     ∙ ap₂ (played_from m a.call)
-    (c.perform-reply.ensures.value ∙ ap (λ (l : List ℕ). reply a.table (call_with a.call l show_buffer)) c.front.ensures.0)
-    (c.perform-reply.ensures.out_after ∙ ap (λ (l : List ℕ). buffer_after a.table a.call l show_buffer) c.front.ensures.0)
+    c.perform-reply.ensures.value
+    c.perform-reply.ensures.out_after
     ∙ performed_is a.table m a.call _
