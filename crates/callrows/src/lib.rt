@@ -20,7 +20,7 @@ pub struct CallColumns {
     pub bytes: usize,
 }
 
-// Which fields of a line a call uses, beside the caller.
+// Which fields of a line a call uses, beside the caller: a row of document 01's table of calls, with a flag for each column.
 #[derive(Clone, Copy)]
 pub struct Uses {
     pub other: bool,
@@ -36,7 +36,7 @@ pub struct CallRow {
     pub put: Data,
 }
 
-// Whether a line is the names of the calls, each once.
+// Whether a line is the names of the calls, each once: text::is_header of its names, which stand here beside the columns.
 pub fn is_call_header(line: &[u8]) -> bool
     ensures { result ≡ names_once call_names (fields_in line.now) }
 {
@@ -106,6 +106,7 @@ fn with_uses(other: bool, set: bool, tag: bool, bytes: bool) -> Uses
     }
 }
 
+// A match on what the call is: document 01's table of calls has a row for each.
 fn uses_of(call: Call) -> Uses
     ensures { result ≡ uses_of call }
 {
@@ -122,14 +123,15 @@ fn uses_of(call: Call) -> Uses
     }
 }
 
-// What a field says as a number; 255 where it says none, as `-` does.
+// What a field says as a number; 255 where it says none, as `-` does. A call holds only the numbers that it uses, and `fits`
+// sees to it that the fields of those are numbers.
 fn number(f: &[u8]) -> u8
     ensures { result ≡ number_in f.now }
 {
     values::decimal(f, 255).unwrap_or(255)
 }
 
-// Whether a field is a number where the call uses it, and `-` where it does not.
+// Whether a field is a number where the call uses it, and `-` where it does not: the flag is its column's in `Uses`.
 fn fits(used: bool, f: &[u8]) -> bool
     ensures { result ≡ fits used f.now }
 {
@@ -140,7 +142,7 @@ fn fits(used: bool, f: &[u8]) -> bool
     }
 }
 
-// Data where the call uses it, and `-` where it does not.
+// Data where the call uses it, and `-` where it does not: the flag is its column's in `Uses`.
 #[tactic(auto, unfolding(crate::specs::Calls::data_if, values::specs::Values::data_of))]
 fn data_if(used: bool, f: &[u8]) -> Option<Data>
     ensures { option_map (λ d. d.items) result ≡ data_if used f.now }

@@ -33,6 +33,8 @@ pub struct EntityRow {
     pub block: [u8; 64],
 }
 
+// The headers of this crate and of callrows are each text::is_header of its names, which stand here beside the columns.
+
 // Whether a line is the names of the entities, each once.
 pub fn is_entity_header(line: &[u8]) -> bool
     ensures { result ≡ names_once entity_names (fields_in line.now) }

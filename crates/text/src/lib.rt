@@ -6,21 +6,23 @@ ghost use Rattle.text.specs.Bytes.{eq_bytes, index_of};
 ghost use Rattle.text.specs.Lines.{line_end, line_at, next_line, fields_in, column_of, names_once};
 ghost use Rattle.text.specs.Split.{no_starts, split_of, field_by};
 
-// Whether two byte strings are the same.
+// Whether two byte strings are the same: `==`, under the name that contracts have for it, eq_bytes.
 pub fn same(a: &[u8], b: &[u8]) -> bool
     ensures { result ≡ eq_bytes a.now b.now }
 {
     a == b
 }
 
-// The index of the first b, or the length where there is none.
+// The index of the first b, or the length where there is none: a line ends where the text ends, too, so the length is no
+// stand-in for nothing.
 pub fn index_of(s: &[u8], b: u8) -> usize
     ensures { result ≡ index_of b s.now }
 {
     s.iter().position(|x| *x == b).unwrap_or(s.len())
 }
 
-// The column of a name in a line of names; how many there are, where it is not among them.
+// The column of a name in a line of names; how many there are, where it is not among them. No Option, which would be undone at
+// each use: a line that lacks a name is no header, and its text is refused whatever is read in that column.
 pub fn column(line: &[u8], name: &[u8]) -> usize
     ensures { result ≡ column_of name.now (fields_in line.now) }
 {
@@ -92,7 +94,8 @@ pub fn is_header(line: &[u8], names: &[u8]) -> bool
         .all(|name| column(line, name) < columns)
 }
 
-// The place of the byte 10 that ends the line at a place; the text's end, or a place beyond it, where none is left.
+// The place of the byte 10 that ends the line at a place; the text's end, or a place beyond it, where none is left: a line ends
+// there, too.
 pub fn line_end(text: &[u8], at: usize) -> usize
     ensures { result ≡ line_end text.now at }
 {

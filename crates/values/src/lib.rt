@@ -11,7 +11,7 @@ use label::Label;
 // The bytes that a field of data says.
 pub type Data = ArrayVec<u8, 255>;
 
-// What a digit says.
+// What a digit says. std's to_digit takes upper case, too.
 #[tactic(auto, unfolding(crate::specs::Values::digit_of))]
 pub fn digit(b: u8) -> Option<u8>
     ensures { result ≡ digit_of b }
@@ -72,7 +72,7 @@ pub fn hex_set(s: &[u8]) -> Option<Label>
     hex_digits(s)
 }
 
-// Two digits a byte, at most max bytes.
+// Two digits a byte, at most max bytes. A turn takes two by a pattern, so that no index is counted.
 fn pairs(s: &[u8], max: u8) -> Option<Data>
     ensures { option_map (λ d. d.items) result ≡ pairs_from max [] s.now }
 {
