@@ -26,8 +26,8 @@ module _ (cs : CallColumns) (row : List ℕ) where
   -- the fields by where a row has them
   pub row_call : (split_of row).count ≡ 6
       → call_of cs (fields_in row)
-      ≡ call_by (field_by row (split_of row).at cs.call) (decimal_of 255 (field_by row (split_of row).at cs.caller)) (field_by row (split_of row).at cs.other)
-      (field_by row (split_of row).at cs.set) (field_by row (split_of row).at cs.tag) (field_by row (split_of row).at cs.bytes)
+      ≡ call_by (field_by row (split_of row).starts cs.call) (decimal_of 255 (field_by row (split_of row).starts cs.caller)) (field_by row (split_of row).starts cs.other)
+      (field_by row (split_of row).starts cs.set) (field_by row (split_of row).starts cs.tag) (field_by row (split_of row).starts cs.bytes)
   unfolding call_of
   row_call n =
       let h : length (fields_in row) ≡ 6 = omega (arith, count_is row) in

@@ -12,7 +12,6 @@ use Rattle.text.specs.Ascii.{ascii}
 use Rattle.text.specs.Bytes.{eq_bytes}
 use Rattle.values.specs.Values.{decimal_of, data_of, dash}
 use Rattle.text.specs.Lines.{fields_in, field_at, column_of}
-use Rattle.values.specs.Answers.{as_data}
 use Rattle.values.specs.Options.{◌>>=◌}
 use Rattle.callrows.specs.declared.CallColumns.{CallColumns}
 use Rattle.callrows.specs.declared.Uses.{Uses}
@@ -96,7 +95,7 @@ call_of cs fs =
 
 -- what the code answers
 abbrev pub as_call_row : CallSaid → CallRow
-as_call_row q = record { call = q.call; put = as_data q.bytes }
+as_call_row q = record { call = q.call; put = record { items = q.bytes } }
 
 -- ---- claims
 

@@ -3,10 +3,10 @@
 
 ghost use Rattle.std.specs.Prelude.{◌≡◌, option_map};
 ghost use Rattle.text.specs.Lines.{fields_in, names_once};
-ghost use Rattle.values.specs.Answers.{as_data};
 ghost use Rattle.callrows.specs.Calls.{call_names, call_columns, call_named, with_uses, uses_of, number_in, fits, data_if, call_of, as_call_row};
 
 use rules::Call;
+use text::Row;
 use values::Data;
 
 // The columns of the calls, found in their line of names.
@@ -20,7 +20,7 @@ pub struct CallColumns {
     pub bytes: usize,
 }
 
-// Which fields of a line a call uses, beside the caller.
+// Which fields of a line a call uses, beside the caller: a row of document 01's table of calls, with a flag for each column.
 #[derive(Clone, Copy)]
 pub struct Uses {
     pub other: bool,
@@ -30,13 +30,13 @@ pub struct Uses {
 }
 
 // What a line of the calls says: a call, and the bytes put.
-#[derive(Clone, Copy)]
+#[derive(Drop)]
 pub struct CallRow {
     pub call: Call,
     pub put: Data,
 }
 
-// Whether a line is the names of the calls, each once.
+// Whether a line is the names of the calls, each once: text::is_header of its names, which stand here beside the columns.
 pub fn is_call_header(line: &[u8]) -> bool
     ensures { result ≡ names_once call_names (fields_in line.now) }
 {
@@ -106,6 +106,7 @@ fn with_uses(other: bool, set: bool, tag: bool, bytes: bool) -> Uses
     }
 }
 
+// A match on what the call is: document 01's table of calls has a row for each.
 fn uses_of(call: Call) -> Uses
     ensures { result ≡ uses_of call }
 {
@@ -122,14 +123,15 @@ fn uses_of(call: Call) -> Uses
     }
 }
 
-// What a field says as a number; 255 where it says none, as `-` does.
+// What a field says as a number; 255 where it says none, as `-` does. A call holds only the numbers that it uses, and `fits`
+// sees to it that the fields of those are numbers.
 fn number(f: &[u8]) -> u8
     ensures { result ≡ number_in f.now }
 {
     values::decimal(f, 255).unwrap_or(255)
 }
 
-// Whether a field is a number where the call uses it, and `-` where it does not.
+// Whether a field is a number where the call uses it, and `-` where it does not: the flag is its column's in `Uses`.
 fn fits(used: bool, f: &[u8]) -> bool
     ensures { result ≡ fits used f.now }
 {
@@ -140,10 +142,10 @@ fn fits(used: bool, f: &[u8]) -> bool
     }
 }
 
-// Data where the call uses it, and `-` where it does not.
+// Data where the call uses it, and `-` where it does not: the flag is its column's in `Uses`.
 #[tactic(auto, unfolding(crate::specs::Calls::data_if, values::specs::Values::data_of))]
 fn data_if(used: bool, f: &[u8]) -> Option<Data>
-    ensures { result ≡ option_map as_data (data_if used f.now) }
+    ensures { option_map (λ d. d.items) result ≡ data_if used f.now }
 {
     if used || text::same(f, b"-") {
         values::data_field(f, 255)
@@ -157,16 +159,16 @@ fn data_if(used: bool, f: &[u8]) -> Option<Data>
 pub fn call_row(columns: CallColumns, row: &[u8]) -> Option<CallRow>
     ensures { result ≡ option_map as_call_row (call_of columns (fields_in row.now)) }
 {
-    let s = text::split(row);
-    if s.count != 6 {
+    let row = Row::split(row);
+    if row.count != 6 {
         return None;
     }
-    let caller = values::decimal(text::field(row, &s.at, columns.caller), 255)?;
-    let other = text::field(row, &s.at, columns.other);
-    let set = text::field(row, &s.at, columns.set);
-    let tag = text::field(row, &s.at, columns.tag);
+    let caller = values::decimal(row.field(columns.caller), 255)?;
+    let other = row.field(columns.other);
+    let set = row.field(columns.set);
+    let tag = row.field(columns.tag);
     let call = call_named(
-        text::field(row, &s.at, columns.call),
+        row.field(columns.call),
         caller,
         number(other),
         number(set),
@@ -176,6 +178,6 @@ pub fn call_row(columns: CallColumns, row: &[u8]) -> Option<CallRow>
     if !(fits(uses.other, other) && fits(uses.set, set) && fits(uses.tag, tag)) {
         return None;
     }
-    let put = data_if(uses.bytes, text::field(row, &s.at, columns.bytes))?;
+    let put = data_if(uses.bytes, row.field(columns.bytes))?;
     Some(CallRow { call, put })
 }

@@ -21,7 +21,8 @@ pub struct Marks {
     pub breaks: Option<usize>,
 }
 
-// Why a text is refused, and at which line; 0 where it is none.
+// Why a text is refused, and at which line; 0, document 01's number for a text that is refused at none: C and the printed line
+// have it.
 #[derive(Clone, Copy)]
 pub struct Fault {
     pub refusal: Refusal,
@@ -152,10 +153,7 @@ pub fn load(text: &[u8]) -> Loaded
 pub fn verdict_number(v: Result<(), Fault>) -> u8
     ensures { result ≡ verdict_number v }
 {
-    match v {
-        Ok(()) => 0,
-        Err(fault) => fault.refusal.number(),
-    }
+    records::number_of(v.map_err(|fault| fault.refusal))
 }
 
 // The line that a verdict returns; 0 where the text is accepted.

@@ -20,7 +20,6 @@ use Rattle.monitor.specs.declared.Table.{Table}
 use Rattle.monitor.specs.declared.Reply.{Reply}
 use Rattle.monitor.specs.Table.{hub}
 use Rattle.monitor.specs.Calls.{reply, buffer_after}
-use Rattle.values.proofs.Laws.{take-bytes}
 use Rattle.callrows.specs.Calls.{show_buffer, CallSaid, call_in, as_call_row}
 use Rattle.callrows.specs.declared.CallRow.{CallRow}
 use Rattle.round.specs.Played.{Making, IsShort, bytes_shown, made_of, performed, played}
@@ -55,7 +54,7 @@ module _ (t : Table) where
 
   pub played_is : (m : Making) (q : CallSaid) → played m t (Some (as_call_row q)) ≡ (made_of m t (call_in q), step hub t (call_in q))
   unfolding performed
-  played_is m q = ap (performed m t q.call) (take-bytes q.bytes)
+  played_is m q = refl
 
 -- ---- how long a piece is
 
@@ -81,4 +80,4 @@ module _ (t : Table) (m : Making) (s : IsShort m) where
 
   pub piece_most : (row : Option CallRow) → length (played m t row).0 ≤ m.most
   piece_most None = omega arith
-  piece_most (Some row) = performed-most row.call (take row.put.len row.put.bytes)
+  piece_most (Some row) = performed-most row.call row.put.items

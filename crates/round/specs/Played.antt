@@ -1,6 +1,6 @@
 -- Document 01, 'A watering round through hubcalls': what the program does with one line of calls.
 -- Assumes nothing.
-use Rattle.std.specs.Prelude.{◌≡◌, ◌≤◌, cond, Option, None, Some, List, [], ℕ, length, take}
+use Rattle.std.specs.Prelude.{◌≡◌, ◌≤◌, cond, Option, None, Some, List, [], ℕ, length}
 use Rattle.rules.specs.declared.Call.{Call as Named}
 use Rattle.rules.specs.Calls.{Call, is_show}
 use Rattle.rules.specs.Refusals.{step}
@@ -45,4 +45,4 @@ performed m t c bytes = (made_of m t (call_with c bytes show_buffer), step hub t
 -- a row played; of one that is no call nothing is made, and the table is as it was
 abbrev pub played : Making → Table → Option CallRow → List ℕ × Table
 played m t None = ([], t)
-played m t (Some row) = performed m t row.call (take row.put.len row.put.bytes)
+played m t (Some row) = performed m t row.call row.put.items

@@ -13,7 +13,6 @@ use callrows::CallRow;
 use monitor::Table;
 use print::Line;
 use rules::Call;
-use values::Data;
 
 // What is made of the calls.
 pub trait Made {
@@ -75,13 +74,12 @@ fn bytes_shown(call: Call, moved: u8) -> usize
 }
 
 // Plays a call with the bytes put, and answers what is made of it.
-fn performed<M: Made>(table: &mut Table, call: Call, put: Data) -> Line
-    ensures line { result.items ≡ (performed M.making table.old call (take put.len put.bytes)).0 }
-    ensures after { table.new ≡ (performed M.making table.old call (take put.len put.bytes)).1 }
+fn performed<M: Made>(table: &mut Table, call: Call, put: &[u8]) -> Line
+    ensures line { result.items ≡ (performed M.making table.old call put.now).0 }
+    ensures after { table.new ≡ (performed M.making table.old call put.now).1 }
 {
-    let bytes = put.bytes;
     let mut buffer = [0u8; 64];
-    let reply = table.perform(call, handing::front(&bytes, put.len), &mut buffer);
+    let reply = table.perform(call, put, &mut buffer);
     let answer = reply.answer;
     let entry = answer.entry;
     *table = reply.table;
@@ -94,7 +92,7 @@ fn play<M: Made>(table: &mut Table, row: Option<CallRow>) -> Line
     ensures after { table.new ≡ (played M.making table.old row).1 }
 {
     match row {
-        Some(row) => performed::<M>(table, row.call, row.put),
+        Some(row) => performed::<M>(table, row.call, &row.put),
         None => Line::new(),
     }
 }

@@ -9,6 +9,7 @@ ghost use Rattle.rows.specs.Entities.{entity_columns, kind_named, entity_formed,
 use entity::Entity;
 use label::Label;
 use rules::Kind;
+use text::Row;
 
 // The columns of the entities, found in their line of names.
 #[derive(Clone, Copy)]
@@ -31,6 +32,8 @@ pub struct EntityRow {
     pub entity: Entity,
     pub block: [u8; 64],
 }
+
+// The headers of this crate and of callrows are each text::is_header of its names, which stand here beside the columns.
 
 // Whether a line is the names of the entities, each once.
 pub fn is_entity_header(line: &[u8]) -> bool
@@ -90,21 +93,21 @@ fn entity_formed(e: Entity) -> bool
 pub fn entity_row(columns: EntityColumns, row: &[u8]) -> Option<EntityRow>
     ensures { result ≡ option_map as_entity_row (entity_of columns (fields_in row.now)) }
 {
-    let s = text::split(row);
-    if s.count != 9 {
+    let row = Row::split(row);
+    if row.count != 9 {
         return None;
     }
-    let slot = values::decimal(text::field(row, &s.at, columns.slot), 31)?;
-    let content = values::data_field(text::field(row, &s.at, columns.content), 64)?;
+    let slot = values::decimal(row.field(columns.slot), 31)?;
+    let content = values::data_field(row.field(columns.content), 64)?;
     let entity = Entity {
-        kind: kind_named(text::field(row, &s.at, columns.kind))?,
-        sec: values::hex_set(text::field(row, &s.at, columns.sec))?,
-        int: values::hex_set(text::field(row, &s.at, columns.int))?,
-        sa: values::hex_set(text::field(row, &s.at, columns.sa))?,
-        sd: values::hex_set(text::field(row, &s.at, columns.sd))?,
-        ia: values::hex_set(text::field(row, &s.at, columns.ia))?,
-        id: values::hex_set(text::field(row, &s.at, columns.id))?,
-        len: content.len,
+        kind: kind_named(row.field(columns.kind))?,
+        sec: values::hex_set(row.field(columns.sec))?,
+        int: values::hex_set(row.field(columns.int))?,
+        sa: values::hex_set(row.field(columns.sa))?,
+        sd: values::hex_set(row.field(columns.sd))?,
+        ia: values::hex_set(row.field(columns.ia))?,
+        id: values::hex_set(row.field(columns.id))?,
+        len: content.len(),
     };
     if !entity_formed(entity) {
         return None;
@@ -112,6 +115,6 @@ pub fn entity_row(columns: EntityColumns, row: &[u8]) -> Option<EntityRow>
     Some(EntityRow {
         slot,
         entity,
-        block: block::pad(&content.bytes),
+        block: block::pad(&content),
     })
 }

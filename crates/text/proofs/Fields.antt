@@ -149,7 +149,7 @@ module _ (s : List ℕ) (n at : ℕ) (f : List ℕ) (fs : List (List ℕ)) (h : 
   pub turn_full : 16 ≤ n + 1 → starts_from s n at (drop n fs) ≡ starts_from s (n + 1) (at + (length f + 1)) (drop (n + 1) fs)
   turn_full k = rw (turn, ← add_assoc at (length f) 1) (starts_full s n at f (drop (n + 1) fs) k)
 
-pub turn_end : (s : List ℕ) (n at : ℕ) (fs : List (List ℕ)) → length fs ≤ n → starts_from s n at (drop n fs) ≡ record { at = s; count = n }
+pub turn_end : (s : List ℕ) (n at : ℕ) (fs : List (List ℕ)) → length fs ≤ n → starts_from s n at (drop n fs) ≡ record { starts = s; count = n }
 unfolding starts_from
 turn_end s n at fs h = rw (drop_of_length-le fs h)
 
@@ -159,7 +159,7 @@ starts_count [] s n at = omega arith
 starts_count (f ∷ fs) s n at = starts_count fs _ (n + 1) _ ∙ omega arith
 
 -- those up to the first n stay
-starts_kept : (fs : List (List ℕ)) (s : List ℕ) (n at j : ℕ) → j ≤ n → get_or (starts_from s n at fs).at j 0 ≡ get_or s j 0
+starts_kept : (fs : List (List ℕ)) (s : List ℕ) (n at j : ℕ) → j ≤ n → get_or (starts_from s n at fs).starts j 0 ≡ get_or s j 0
 unfolding starts_from
 starts_kept [] s n at j h = refl
 starts_kept (f ∷ fs) s n at j h = starts_kept fs _ (n + 1) _ j (omega arith) ∙ go (ltb (n + 1) 16)
@@ -194,7 +194,7 @@ Between row s k = take (get_or s (k + 1) 0 - 1 - get_or s k 0) (drop (get_or s k
 
 fields_by : (row : List ℕ) (fs : List (List ℕ)) (s : List ℕ) (n at : ℕ) → fields_from row at ≡ fs → length s ≡ 16 → get_or s n 0 ≡ at
     → ((j : ℕ) → n < j → get_or s j 0 ≡ 0) → n + length fs ≤ 15
-    → (k m : ℕ) → m ≡ n + k → Between row (starts_from s n at fs).at m ≡ field_at fs k
+    → (k m : ℕ) → m ≡ n + k → Between row (starts_from s n at fs).starts m ≡ field_at fs k
 unfolding starts_from
 fields_by row [] s n at e l p z h k m q =
     let a : get_or s (m + 1) 0 ≡ 0 = z (m + 1) (omega arith) in
@@ -204,9 +204,9 @@ fields_by row (f ∷ fs) s n at e l p z h zero m q =
     let x = next_of row f fs at e in
     let w = starts_more s n at f fs (omega arith) in
     let v = at + length f + 1 in
-    let a : get_or (starts_from s n at (f ∷ fs)).at m 0 ≡ at =
+    let a : get_or (starts_from s n at (f ∷ fs)).starts m 0 ≡ at =
     starts_kept (f ∷ fs) s n at m (omega arith) ∙ ap (λ (j : ℕ). get_or s j 0) (omega arith) ∙ p in
-    let b : get_or (starts_from s n at (f ∷ fs)).at (m + 1) 0 ≡ v =
+    let b : get_or (starts_from s n at (f ∷ fs)).starts (m + 1) 0 ≡ v =
     rw w (starts_kept fs (set s (n + 1) v) (n + 1) v (m + 1) (omega arith) ∙ ap (λ (j : ℕ). get_or (set s (n + 1) v) j 0) (omega arith) ∙ get_or-set_same s (n + 1) v 0 (omega arith)) in
     let d : v - 1 - at ≡ length f = omega arith in
     rw (a, b, d) x.is
@@ -253,7 +253,7 @@ beyond [] k h = refl
 beyond (f ∷ fs) zero h = absurd (omega arith)
 beyond (f ∷ fs) (suc k) h = beyond fs k (omega arith)
 
-pub field_is : (row : List ℕ) → length (fields_in row) ≤ 15 → (k : ℕ) → field_by row (split_of row).at k ≡ field_at (fields_in row) k
+pub field_is : (row : List ℕ) → length (fields_in row) ≤ 15 → (k : ℕ) → field_by row (split_of row).starts k ≡ field_at (fields_in row) k
 unfolding split_of no_starts
 field_is row h k = elim (dec_le 15 k) [
   | yes p ↦ by_none row _ k p ∙ sym (beyond (fields_in row) k (omega arith))

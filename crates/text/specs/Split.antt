@@ -1,8 +1,12 @@
 -- Where a row has its fields.
 -- Assumes nothing.
 use Rattle.std.specs.Prelude.{ℕ, ◌+◌, ◌-◌, cond, List, [], ◌∷◌, ltb, length, get_or, set, take, drop, replicate}
-use Rattle.text.specs.declared.Starts.{Starts}
 use Rattle.text.specs.Lines.{fields_in}
+
+-- where the first 15 fields start, and where one more would; and how many there are
+pub record Starts : Type 0 where
+  pub starts : List ℕ
+  pub count : ℕ
 
 unfoldable pub no_starts : List ℕ
 no_starts = replicate 16 0
@@ -10,7 +14,7 @@ no_starts = replicate 16 0
 -- The starts after the first n of the fields, of which one more would start at a place: each field ends one byte, its space,
 -- before the next start
 unfoldable pub starts_from : List ℕ → ℕ → ℕ → List (List ℕ) → Starts
-starts_from s n at [] = record { at = s; count = n }
+starts_from s n at [] = record { starts = s; count = n }
 starts_from s n at (f ∷ fs) =
     starts_from (cond (ltb (n + 1) 16) (set s (n + 1) (at + length f + 1)) s) (n + 1) (at + length f + 1) fs
 

@@ -6,70 +6,79 @@ ghost use Rattle.text.specs.Bytes.{eq_bytes, index_of};
 ghost use Rattle.text.specs.Lines.{line_end, line_at, next_line, fields_in, column_of, names_once};
 ghost use Rattle.text.specs.Split.{no_starts, split_of, field_by};
 
-// Whether two byte strings are the same.
+// Whether two byte strings are the same: `==`, under the name that contracts have for it, eq_bytes.
 pub fn same(a: &[u8], b: &[u8]) -> bool
     ensures { result ≡ eq_bytes a.now b.now }
 {
     a == b
 }
 
-// The index of the first b, or the length where there is none.
+// The index of the first b, or the length where there is none: a line ends where the text ends, too, so the length is no
+// stand-in for nothing.
 pub fn index_of(s: &[u8], b: u8) -> usize
     ensures { result ≡ index_of b s.now }
 {
     s.iter().position(|x| *x == b).unwrap_or(s.len())
 }
 
-// The column of a name in a line of names; how many there are, where it is not among them.
+// The column of a name in a line of names; how many there are, where it is not among them. No Option, which would be undone at
+// each use: a line that lacks a name is no header, and its text is refused whatever is read in that column.
 pub fn column(line: &[u8], name: &[u8]) -> usize
     ensures { result ≡ column_of name.now (fields_in line.now) }
 {
     line.split(|b| *b == 32).take_while(|h| *h != name).count()
 }
 
-// Where the fields of a row start, the first 15, and where one more would; and how many there are.
+// A row, split into its fields: where the first 15 start, and where one more would; and how many there are, which may be more.
 #[derive(Clone, Copy)]
-pub struct Starts {
-    pub at: [usize; 16],
+pub struct Row<'a> {
+    pub bytes: &'a [u8],
+    pub starts: [usize; 16],
     pub count: usize,
 }
 
-// Splits a row into its fields.
-pub fn split(row: &[u8]) -> Starts
-    ensures { result ≡ split_of row.now }
-{
-    let mut at = [0; 16];
-    let mut count = 0;
-    let mut next = 0;
-    for field in row.split(|b| *b == 32) {
-        next += field.len() + 1;
-        count += 1;
-        if count < 16 {
-            at[count] = next;
+impl<'a> Row<'a> {
+    pub fn split(bytes: &'a [u8]) -> Row<'a>
+        ensures same_bytes { result.bytes.now ≡ bytes.now }
+        ensures fields { record { starts = result.starts; count = result.count } ≡ split_of bytes.now }
+    {
+        let mut starts = [0; 16];
+        let mut count = 0;
+        let mut next = 0;
+        for field in bytes.split(|b| *b == 32) {
+            next += field.len() + 1;
+            count += 1;
+            if count < 16 {
+                starts[count] = next;
+            }
+        }
+        Row {
+            bytes,
+            starts,
+            count,
         }
     }
-    Starts { at, count }
-}
 
-// The field of a row in a column, by where the row's fields start: one of the first 15 columns; nothing in any other.
-pub fn field<'a>(row: &'a [u8], starts: &[usize; 16], k: usize) -> &'a [u8]
-    ensures { result.now ≡ field_by row.now starts.now k }
-{
-    if 15 <= k {
-        return &row[..0];
+    // The field in a column: one of the first 15; nothing in any other.
+    pub fn field(&self, k: usize) -> &'a [u8]
+        ensures { result.now ≡ field_by self.now.bytes.now self.now.starts k }
+    {
+        if 15 <= k {
+            return &self.bytes[..0];
+        }
+        let a = self.starts[k];
+        let b = self.starts[k + 1];
+        if b <= a {
+            return &self.bytes[..0];
+        }
+        if self.bytes.len() <= a {
+            return &self.bytes[..0];
+        }
+        if self.bytes.len() < b {
+            return &self.bytes[a..];
+        }
+        &self.bytes[a..b - 1]
     }
-    let a = starts[k];
-    let b = starts[k + 1];
-    if b <= a {
-        return &row[..0];
-    }
-    if row.len() <= a {
-        return &row[..0];
-    }
-    if row.len() < b {
-        return &row[a..];
-    }
-    &row[a..b - 1]
 }
 
 // Whether a line of names has as many columns as there are names, with a space between them, and one for each.
@@ -85,7 +94,8 @@ pub fn is_header(line: &[u8], names: &[u8]) -> bool
         .all(|name| column(line, name) < columns)
 }
 
-// The place of the byte 10 that ends the line at a place; the text's end, or a place beyond it, where none is left.
+// The place of the byte 10 that ends the line at a place; the text's end, or a place beyond it, where none is left: a line ends
+// there, too.
 pub fn line_end(text: &[u8], at: usize) -> usize
     ensures { result ≡ line_end text.now at }
 {

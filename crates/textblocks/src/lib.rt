@@ -18,7 +18,8 @@ pub struct Place {
     pub line: usize,
 }
 
-// A block of a text: the columns that its rows have. Groups have one.
+// A block of a text: the columns that its rows have. Groups have one. The matches on it ask what the block is;
+// none picks a step to run.
 #[derive(Clone, Copy)]
 pub enum Block {
     Entities(EntityColumns),
@@ -26,7 +27,8 @@ pub enum Block {
     Calls(CallColumns),
 }
 
-// A text from the line at a place on. As an iterator it gives the whole lines, each with its number.
+// A text from the line at a place on. As an iterator it gives the whole lines, each with its number. Contracts say its text and
+// its place by an equation each: one of two values would have to say that they hold the same proof of `inside`, too.
 #[derive(Clone, Copy)]
 pub struct Rest<'a> {
     pub text: &'a [u8],
@@ -66,7 +68,7 @@ impl<'a> Rest<'a> {
         }
     }
 
-    // What is left past the next empty line.
+    // What is left past the next empty line. No index is counted, and self is left where the loop stops.
     fn past_empty(mut self) -> Self
         ensures { (result.text.now ≡ self.entry.text.now) × (result.place ≡ past_empty self.entry.text.now self.entry.place) }
     {
@@ -91,13 +93,6 @@ fn calls(text: &[u8]) -> Rest<'_>
     ensures { (result.text.now ≡ text.now) × (result.place ≡ calls_at text.now) }
 {
     groups(text).past_empty()
-}
-
-// The place of the line of names of the groups.
-pub fn groups_at(text: &[u8]) -> usize
-    ensures { result ≡ (groups_at text.now).at }
-{
-    groups(text).place.at
 }
 
 // The place of the line of names of the calls.
@@ -125,7 +120,7 @@ fn row_good(block: Block, i: usize, row: &[u8]) -> bool
     }
 }
 
-// Whether a line is the names of a block, each once.
+// Whether a line is the names of a block, each once: of the headers that stand beside the columns in rows and callrows.
 fn is_header(block: Block, line: &[u8]) -> bool
     ensures { result ≡ is_header block (fields_in line.now) }
 {
@@ -143,7 +138,8 @@ fn is_last(block: Block) -> bool
     matches!(block, Block::Calls(_))
 }
 
-// The first bad line of the rows of a block.
+// The first bad line of the rows of a block. No index is counted: where the lines run out, the reader's own place
+// says at which.
 fn rows_bad(mut rows: Rest<'_>, block: Block) -> Option<usize>
     ensures { result ≡ rows_bad block rows.entry.place.line 0 (lines_of (drop rows.entry.place.at rows.entry.text.now)) }
 {

@@ -1,8 +1,7 @@
 -- One step and the end of each definition over what is left of a field.
 -- Assumes nothing.
-use Rattle.std.proofs.Common.{◌≡◌, refl, ◌∙◌, Bool, true, false, cond, ◌&&◌, ◌||◌, List, [], ◌∷◌, ◌++◌, append_assoc, ℕ, suc, ◌+◌, ◌*◌, ◌-◌, ◌≤◌, ◌<◌, arith, length, get_or, take, drop, set, replicate, length-append, Option, None, Some, option_map, eqb, leb, ltb}
-use Rattle.std.proofs.lemmas.List.{length-replicate}
-use lib.Seq.{take-append_seam, set-append_seam, take_all}
+use Rattle.std.proofs.Common.{◌≡◌, refl, ◌∙◌, Bool, true, false, cond, ◌&&◌, ◌||◌, List, [], ◌∷◌, ◌++◌, ℕ, suc, ◌+◌, ◌*◌, ◌-◌, ◌≤◌, ◌<◌, arith, length, get_or, take, drop, Option, None, Some, eqb, leb, ltb}
+use lib.Seq.{take_all}
 use borrow.Author.Tests.{le-leb, lt-leb, leb-true, ltb-false}
 use Rattle.rules.proofs.Facts.{and_right, neither_right}
 use Rattle.label.specs.declared.Label.{Label}
@@ -10,8 +9,6 @@ use Rattle.label.specs.Tags.{with_digit}
 use Rattle.text.proofs.Laws.{step, at_end}
 use Rattle.values.specs.Options.{◌>>=◌}
 use Rattle.values.specs.Values.{digit_of, decimal_from, decimal_of, set_from, pairs_from}
-use Rattle.values.specs.declared.Data.{Data}
-use Rattle.values.specs.Answers.{data_bytes, as_data}
 
 -- decimal_from
 module _ (max n : ℕ) (s : List ℕ) (i : ℕ) where
@@ -115,31 +112,3 @@ module _ (max : ℕ) (bs : List ℕ) where
 
     pub pairs_step : 2 ≤ length s → length bs < max → pairs_from max bs s ≡ pairs_from max (bs ++ ((x * 16 + y) ∷ [])) (take (length s - 2) (drop 2 s))
     pairs_step h k = pair_is s x y h e f ∙ rw (lt-leb max (length bs) k)
-
--- the bytes in an array of 255
-pub length-bytes : (bs : List ℕ) → length bs ≤ 255 → length (data_bytes bs) ≡ 255
-unfolding data_bytes
-length-bytes bs h = simp (length-append, length-replicate) (omega arith)
-
-pub take-bytes : (bs : List ℕ) → take (length bs) (data_bytes bs) ≡ bs
-unfolding data_bytes
-take-bytes bs = take-append_seam bs _
-
-pub bytes-more : (bs : List ℕ) (b : ℕ) → length bs < 255 → set (data_bytes bs) (length bs) b ≡ data_bytes (bs ++ (b ∷ []))
-unfolding data_bytes
-bytes-more bs b h =
-    let e : 255 - length bs ≡ suc (254 - length bs) = omega arith in
-    let f : 255 - length (bs ++ (b ∷ [])) ≡ 254 - length bs = omega (arith, length-append bs (b ∷ [])) in
-    rw (e, f, append_assoc) (set-append_seam bs 0 (replicate (254 - length bs) 0) b)
-
--- what the code answers for data comes from bytes
-pub data_said : (d : Data) (o : Option (List ℕ)) → Some d ≡ option_map as_data o → (bs : List ℕ) × (o ≡ Some bs) × (d ≡ as_data bs)
-data_said d None e = absurd cc
-data_said d (Some bs) e = (bs, refl, cc)
-
--- what a loop over pairs holds: the bytes so far, in an array of 255, and the pairs that are left
-pub record Paired (max : ℕ) (s bytes : List ℕ) (n : ℕ) (left : List ℕ) : Type 0 where
-  pub bs : List ℕ
-  pub count : length bs ≡ n
-  pub kept : bytes ≡ data_bytes bs
-  pub says : pairs_from max bs left ≡ pairs_from max [] s

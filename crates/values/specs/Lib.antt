@@ -1,3 +1,2 @@
 pub mod Options
 pub mod Values
-pub mod Answers

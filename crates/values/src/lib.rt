@@ -4,18 +4,14 @@
 ghost use Rattle.std.specs.Prelude.{[], ◌≡◌, option_map};
 ghost use Rattle.label.specs.Tags.{empty};
 ghost use Rattle.values.specs.Values.{digit_of, decimal_from, decimal_of, set_from, hex_set_of, pairs_from, data_of};
-ghost use Rattle.values.specs.Answers.{as_data};
 
+use arrayvec::ArrayVec;
 use label::Label;
 
-// The bytes that a field of data says, the first len of some with zeros after them. No heap, so an array with its length.
-#[derive(Clone, Copy)]
-pub struct Data {
-    pub bytes: [u8; 255],
-    pub len: usize,
-}
+// The bytes that a field of data says.
+pub type Data = ArrayVec<u8, 255>;
 
-// What a digit says.
+// What a digit says. std's to_digit takes upper case, too.
 #[tactic(auto, unfolding(crate::specs::Values::digit_of))]
 pub fn digit(b: u8) -> Option<u8>
     ensures { result ≡ digit_of b }
@@ -76,29 +72,18 @@ pub fn hex_set(s: &[u8]) -> Option<Label>
     hex_digits(s)
 }
 
-#[tactic(auto, unfolding(crate::specs::Answers::data_bytes))]
-fn empty_data() -> Data
-    ensures { result ≡ as_data [] }
-{
-    Data {
-        bytes: [0; 255],
-        len: 0,
-    }
-}
-
-// Two digits a byte, at most max bytes.
+// Two digits a byte, at most max bytes. A turn takes two by a pattern, so that no index is counted.
 fn pairs(s: &[u8], max: u8) -> Option<Data>
-    ensures { result ≡ option_map as_data (pairs_from max [] s.now) }
+    ensures { option_map (λ d. d.items) result ≡ pairs_from max [] s.now }
 {
-    let mut data = empty_data();
+    let mut data = Data::new();
     let mut left = s;
     while let [h, l, rest @ ..] = left {
         let b = digit(*h)? * 16 + digit(*l)?;
-        if usize::from(max) <= data.len {
+        if usize::from(max) <= data.len() {
             return None;
         }
-        data.bytes[data.len] = b;
-        data.len += 1;
+        data.push(b);
         left = rest;
     }
     if left.is_empty() { Some(data) } else { None }
@@ -107,10 +92,10 @@ fn pairs(s: &[u8], max: u8) -> Option<Data>
 // A data field: `-`, or two digits a byte, at most max bytes.
 #[tactic(auto, unfolding(crate::specs::Values::data_of))]
 pub fn data_field(s: &[u8], max: u8) -> Option<Data>
-    ensures { result ≡ option_map as_data (data_of max s.now) }
+    ensures { option_map (λ d. d.items) result ≡ data_of max s.now }
 {
     if text::same(s, b"-") {
-        return Some(empty_data());
+        return Some(Data::new());
     }
     if s.is_empty() {
         return None;

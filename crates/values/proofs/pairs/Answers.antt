@@ -1,54 +1,36 @@
-use Rattle.std.proofs.Common.{sym, ap, ◌∙◌, refl, ◌+◌, ◌*◌, ◌++◌, [], ◌∷◌, arith, length, length-append, length-set, option_map}
+use Rattle.std.proofs.Common.{sym, ◌∙◌, arith, length}
 use borrow.Author.Tests.{eqb-true, eqb-false}
-use Rattle.values.specs.Answers.{as_data}
-use Rattle.values.proofs.Laws.{digit_below, pairs_end, pairs_odd, pairs_high, pairs_low, pairs_full, pairs_step, bytes-more, length-bytes}
+use Rattle.values.proofs.Laws.{digit_below, pairs_end, pairs_odd, pairs_high, pairs_low, pairs_full, pairs_step}
 use Rattle.values.proofs.pairs.Goals as goal
-
-pub loop-left-init : goal.loop-left-init
-loop-left-init c =
-    let e = c.empty_data-data.ensures in
-    (rw e (omega arith), rw e (length-bytes [] (omega arith)), rw e (record { bs = []; count = refl; kept = refl; says = refl }))
 
 pub returns-in_err-digit : goal.returns-in_err-digit
 returns-in_err-digit c =
-    let h = c.loop-left.invariant.2 in
-    c.from_residual.ensures ∙ ap (option_map as_data) (sym (pairs_high _ h.bs _ c.in-len2-up.len_at_least c.in_err-digit.ensures) ∙ h.says)
+    rw c.from_residual.ensures (sym (pairs_high _ _ _ c.in-len2-up.len_at_least c.in_err-digit.ensures) ∙ c.loop-left.invariant.1)
 
 pub overflow_mul-b : goal.overflow_mul-b
 overflow_mul-b c = let x = digit_below _ _ c.in_ok-digit.ensures in omega arith
 
 pub returns-in_err-b : goal.returns-in_err-b
 returns-in_err-b c =
-    let h = c.loop-left.invariant.2 in
-    c.from_residual-in_err-b.ensures ∙ ap (option_map as_data) (sym (pairs_low _ h.bs _ _ c.in-len2-up.len_at_least c.in_ok-digit.ensures c.in_err-b.ensures) ∙ h.says)
+    rw c.from_residual-in_err-b.ensures (sym (pairs_low _ _ _ _ c.in-len2-up.len_at_least c.in_ok-digit.ensures c.in_err-b.ensures) ∙ c.loop-left.invariant.1)
 
 pub overflow_add-b : goal.overflow_add-b
 overflow_add-b c = let x = digit_below _ _ c.in_ok-digit.ensures in let y = digit_below _ _ c.in_ok-b.ensures in omega arith
 
-pub returns-then-from-data : goal.returns-then-from-data
-returns-then-from-data c =
-    let h = c.loop-left.invariant.2 in
-    ap (option_map as_data) (sym (pairs_full _ h.bs _ _ _ c.in_ok-digit.ensures c.in_ok-b.ensures c.in-len2-up.len_at_least (omega (arith, h.count))) ∙ h.says)
+pub returns-then-from-len : goal.returns-then-from-len
+returns-then-from-len c =
+    sym (pairs_full _ _ _ _ _ c.in_ok-digit.ensures c.in_ok-b.ensures c.in-len2-up.len_at_least (omega arith)) ∙ c.loop-left.invariant.1
 
 pub loop-left-preserved : goal.loop-left-preserved
 loop-left-preserved c =
-    let l = c.loop-left in let h = l.invariant.2 in let k = h.count in
-    let b = c.in_ok-digit.field-0 * 16 + c.in_ok-b.field-0 in (
+    let l = c.loop-left in (
       omega arith,
-      simp length-set l.invariant.1,
-      record {
-        bs = h.bs ++ (b ∷ []);
-        count = omega (arith, length-append h.bs (b ∷ []));
-        kept = rw (h.kept, ← k) (bytes-more h.bs b (omega arith));
-        says = sym (pairs_step _ h.bs _ _ _ c.in_ok-digit.ensures c.in_ok-b.ensures c.in-len2-up.len_at_least (omega arith)) ∙ h.says;
-      },
+      rw c.push.ensures.items (sym (pairs_step _ l.data.items _ _ _ c.in_ok-digit.ensures c.in_ok-b.ensures c.in-len2-up.len_at_least (omega arith)) ∙ l.invariant.1),
     )
 
 pub returns-then-is_empty : goal.returns-then-is_empty
-returns-then-is_empty c =
-    let h = c.loop-left.invariant.2 in let e = sym h.count in
-    rw (e, h.kept) (ap (option_map as_data) (sym (pairs_end _ h.bs _ (eqb-true _ 0 (sym c.if-is_empty.ensures))) ∙ h.says))
+returns-then-is_empty c = sym (pairs_end _ _ _ (eqb-true _ 0 (sym c.if-is_empty.ensures))) ∙ c.loop-left.invariant.1
 
 pub returns-else-is_empty : goal.returns-else-is_empty
 returns-else-is_empty c =
-    let h = c.loop-left.invariant.2 in ap (option_map as_data) (sym (pairs_odd _ h.bs _ (omega (arith, eqb-false (length c.loop-left.left.now) 0 (sym c.if-is_empty.ensures)))) ∙ h.says)
+    sym (pairs_odd _ _ _ (omega (arith, eqb-false (length c.loop-left.left.now) 0 (sym c.if-is_empty.ensures)))) ∙ c.loop-left.invariant.1
