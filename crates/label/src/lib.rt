@@ -98,8 +98,8 @@ pub fn keeps(group: Label, l: Label) -> bool
     common(l, group) <= 1
 }
 
-// The first label where the test holds, else the second.
-pub fn choose(test: bool, a: Label, b: Label) -> Label
+// The first where the test holds, else the second.
+pub fn choose<T: Copy>(test: bool, a: T, b: T) -> T
     ensures { result ≡ cond test a b }
 {
     if test { a } else { b }
