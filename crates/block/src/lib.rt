@@ -1,4 +1,5 @@
-// The content area: a block of 64 bytes for each of the 32 slots.
+// The content area: a block of 64 bytes for each of the 32 slots. It is lent beside a slot: a Table has it beside other arrays,
+// as document 01 lays it out, and a struct of the area and a slot would be built for each call alone.
 #![tactic(auto)]
 
 ghost use Rattle.std.specs.Prelude.{◌≡◌, drop};
