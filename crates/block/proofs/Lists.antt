@@ -1,6 +1,6 @@
 -- Copies of bytes from list to list, one at a turn, and what stands where after them.
 -- Assumes nothing.
-use mathlib.Core.Path.{◌≡◌, refl, sym, ap, ◌∙◌}
+use mathlib.Core.Path.{◌≡◌, refl, sym, ap, ap₂, ◌∙◌}
 use mathlib.Core.Logic.{⊎_elim, ◌⊎◌, inl, inr}
 use mathlib.Core.Bool.{Bool, true, false, ◌&&◌}
 use mathlib.Core.List.{List, [], ◌∷◌, ◌++◌}
@@ -11,10 +11,10 @@ use native.Mathlib.Omega.{arith}
 use lib.Arith.{lt_of_le-ne}
 use lib.Dec.{eqb, ltb}
 use lib.ListN.{length, get_or, set, take, drop, replicate, length-drop, length-take, drop_of_length-le, get_or-append}
-use lib.Seq.{paste, paste-suc, get_or-drop, get_or-take, length_paste_head, length-paste, length-take-le, drop-paste, get_or-append-add, ext_get_or}
+use lib.Seq.{paste, paste-suc, get_or-drop, get_or-take, length_paste_head, length-paste, length-take-le, take-take, drop-paste, get_or-append-add, ext_get_or}
 use borrow.Author.Tests.{ltb-true, ltb-false, lt-ltb, le-ltb}
 use Rattle.rules.proofs.Facts.{either}
-use Rattle.block.specs.Block.{all_zero, no_block, block_at, bytes_at, with_block}
+use Rattle.block.specs.Block.{all_zero, no_block, block_at, bytes_at, with_block, filled_front}
 use Rattle.std.specs.List.{fold}
 use Rattle.std.proofs.Math.Bool.{and-true, and_assoc}
 use Rattle.std.proofs.lemmas.List.{drop_min, take_min}
@@ -35,6 +35,18 @@ paste_more d at s j e hd hs =
 pub fold_zero : (b : Bool) (l : List ℕ) → fold (λ (all : Bool) (x : ℕ). all && eqb x 0) b l ≡ b && all_zero l
 fold_zero b [] = sym (and-true b)
 fold_zero b (x ∷ l) = fold_zero (b && eqb x 0) l ∙ and_assoc b (eqb x 0) (all_zero l)
+
+-- a copy of a block's front: as many bytes as there are in it and in the buffer
+pub front_copied : (block : List ℕ) (n : ℕ) (buf : List ℕ) → length block ≡ 64
+    → take (length buf) (take (min n 64) block) ++ drop (length (take (min n 64) block)) buf ≡ filled_front block n buf
+unfolding filled_front
+front_copied block n buf h =
+    let m = min n 64 in
+    let k : length (take m block) ≡ m = length-take-le m block (omega arith) in
+    let j : min (length buf) (length (take m block)) ≡ min m (length buf) = omega (arith, k) in
+    ap₂ ◌++◌
+    (sym (take_min (length buf) (take m block)) ∙ ap (λ (i : ℕ). take i (take m block)) j ∙ take-take (min m (length buf)) m block (omega arith))
+    (ap (λ (i : ℕ). drop i buf) k ∙ sym (drop_min m buf))
 
 pub zero-drop : (n m : ℕ) → all_zero (drop n (replicate m 0)) ≡ true
 zero-drop n m = ap all_zero (drop-replicate n m 0) ∙ all-zero (m - n)

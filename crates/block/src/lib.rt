@@ -1,4 +1,5 @@
-// The content area: a block of 64 bytes for each of the 32 slots.
+// The content area: a block of 64 bytes for each of the 32 slots. It is lent beside a slot: a Table has it beside other arrays,
+// as document 01 lays it out, and a struct of the area and a slot would be built for each call alone.
 #![tactic(auto)]
 
 ghost use Rattle.std.specs.Prelude.{◌≡◌, drop};
@@ -39,8 +40,8 @@ pub fn read(content: &[u8], slot: u8) -> [u8; 64]
     pad(bytes_of(content, slot))
 }
 
-// Whether the content bytes of a slot beyond a length are zero. The fold leaves at no byte, as `all` would, so that the compiler
-// can test many of them at once.
+// Whether the content bytes of a slot beyond a length are zero. Unlike `all`, the fold reads every byte and leaves at none of
+// them, so that the compiler can test many at once.
 pub fn zero_beyond(content: &[u8], slot: u8, n: usize) -> bool
     ensures { result ≡ all_zero (drop n (block_at content.now slot)) }
 {
@@ -54,6 +55,5 @@ pub fn zero_beyond(content: &[u8], slot: u8, n: usize) -> bool
 pub fn copy_front(block: [u8; 64], n: usize, out: &mut [u8])
     ensures { out.new ≡ filled_front block n out.old }
 {
-    let m = n.min(64).min(out.len());
-    out[..m].copy_from_slice(&block[..m]);
+    copying::copy(&block[..n.min(64)], out);
 }

@@ -1,6 +1,13 @@
 -- The claims at the hub's table.
 -- Assumes nothing.
-use mathlib.Core.Path.{refl}
+use Prim.Native.Nat.{ℕ}
+use mathlib.Core.Path.{◌≡◌, refl}
+use mathlib.Core.List.{List}
+use lib.ListN.{length}
+use Rattle.std.specs.Prelude.{Ok, Err}
+use Rattle.std.specs.Result.{result_map_both}
+use Rattle.rules.specs.Numbers.{Outcome}
+use Rattle.rules.specs.Record.{audit}
 use Rattle.rules.proofs.Refused.{refusals_move_nothing, refused_audits_move_nothing, parts_fit}
 use Rattle.rules.proofs.Groups.{stays_accepted}
 use Rattle.rules.proofs.Shows.{records_show}
@@ -9,11 +16,20 @@ use Rattle.rules.proofs.ByNumber.{list_by_number, needless_by_number, record-byt
 use Rattle.rules.proofs.Effects.{calls_leave, rights_needed}
 use Rattle.rules.proofs.Audits.{audit-by-number, runs_audited}
 use Rattle.label.proofs.Words.{words_order, words_tag}
+use Rattle.monitor.specs.declared.Table.{Table}
 use Rattle.monitor.specs.Table.{hub}
-use Rattle.monitor.specs.Calls.{reply, shown_part, shown_buffer, buffer_after, audited}
+use Rattle.monitor.specs.Calls.{reply, shown_part, shown_buffer, buffer_after, audited, audit_done}
 use Rattle.claims.specs.AtHub.{RunsAsRules, PerformsNamed, AtHub}
 use Rattle.monitor.proofs.Form.{hub_laws}
-use Rattle.monitor.proofs.AuditLaws.{len_room}
+use Rattle.monitor.proofs.AuditLaws.{len_room, done_allowed}
+
+outcome_done : (t : Table) (i : ℕ) (list buf : List ℕ) → result_map_both (λ _. tt) (λ r. r) (audit_done t i list buf) ≡ (audit hub t i list buf).outcome
+unfolding audit_done audited
+outcome_done t i list buf = go (audit hub t i list buf).outcome
+  where
+    go : (v : Outcome) → result_map_both (λ _. tt) (λ r. r) (result_map_both (λ _. length (audit hub t i list buf).part) (λ r. r) v) ≡ v
+    go (Ok _) = refl
+    go (Err r) = refl
 
 pub runs_as_rules : RunsAsRules
 unfolding reply shown_part shown_buffer buffer_after audited
@@ -27,6 +43,8 @@ runs_as_rules = record {
   unused = λ t c bytes buf e. rw e;
   audits = λ t i list buf. refl;
   audit-len = λ t i list buf. len_room t i list buf;
+  audit_outcome = outcome_done;
+  audit_filled = λ t i list buf n e. (done_allowed t i list buf n e).1;
 }
 
 pub at_hub : AtHub

@@ -1,7 +1,8 @@
 -- The claims for the very functions that run: the rules' claims at the hub's table, and that the calls and audits which run
 -- are the rules' own there.
 -- Assumes nothing.
-use Rattle.std.specs.Prelude.{◌≡◌, false, List, ℕ, ◌<◌, length}
+use Rattle.std.specs.Prelude.{◌≡◌, false, List, ℕ, ◌<◌, length, Ok}
+use Rattle.std.specs.Result.{result_map_both}
 use Rattle.rules.specs.declared.Call.{Call as Named}
 use Rattle.rules.specs.declared.Call.TheVariants.{Put, Show, Send, Fetch, Add, Drop, Create, Release, Hand}
 use Rattle.rules.specs.Table.{Slot}
@@ -17,7 +18,7 @@ use Rattle.label.specs.Words.{words}
 use Rattle.records.specs.Record.{fields_as, fields_given}
 use Rattle.monitor.specs.declared.Table.{Table}
 use Rattle.monitor.specs.Table.{hub}
-use Rattle.monitor.specs.Calls.{reply, shown_part, shown_buffer, buffer_after, audited}
+use Rattle.monitor.specs.Calls.{reply, shown_part, shown_buffer, buffer_after, audited, audit_done}
 use Rattle.monitor.specs.Finish.{audit_len}
 
 -- What the contracts of the calls and of the audit speak of, by the rules. A call that is performed into a lent buffer leaves it as
@@ -32,6 +33,8 @@ pub record RunsAsRules : Type 0 where
   pub unused : (t : Table) (c : Named) (bytes buf : List ℕ) → is_show (call_with c bytes buf) ≡ false → buffer_after t c bytes buf ≡ buf
   pub audits : (t : Table) (i : ℕ) (list buf : List ℕ) → audited t i list buf ≡ audit hub t i list buf
   pub audit-len : (t : Table) (i : ℕ) (list buf : List ℕ) → audit_len t i list (length buf) ≡ length (audit hub t i list buf).part
+  pub audit_outcome : (t : Table) (i : ℕ) (list buf : List ℕ) → result_map_both (λ _. tt) (λ r. r) (audit_done t i list buf) ≡ (audit hub t i list buf).outcome
+  pub audit_filled : (t : Table) (i : ℕ) (list buf : List ℕ) (n : ℕ) → audit_done t i list buf ≡ Ok n → length (audit hub t i list buf).part ≡ n
 
 -- The calls that `perform` takes as values, each by the kind and the fields that its record has; and put's bytes and show's buffer
 pub record CallsNamed (bs buf : List ℕ) : Type 0 where

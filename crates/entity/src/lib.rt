@@ -46,7 +46,7 @@ pub fn free_entity() -> Entity
 pub fn free_unless(test: bool, e: Entity) -> Entity
     ensures { result ≡ cond test e free_entity }
 {
-    if test { e } else { free_entity() }
+    label::choose(test, e, free_entity())
 }
 
 // What create's set field names: 1 an item, 2 a program. It answers every number, and is no `TryFrom`, since a create makes its

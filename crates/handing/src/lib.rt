@@ -5,7 +5,8 @@ ghost use Rattle.std.specs.Prelude.{◌≡◌, take};
 
 use rules::Refusal;
 
-// The filled front part of a lent buffer, and the outcome.
+// The filled front part of a lent buffer, and the outcome. It is no `Result` of the part: document 01 hands a part back from a
+// refused audit too, an empty one.
 #[derive(Clone, Copy)]
 pub struct Filled<'a> {
     pub part: &'a [u8],

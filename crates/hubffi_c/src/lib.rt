@@ -165,11 +165,12 @@ pub extern "C" fn hub_audit(t: HubTable, caller: u8, list: &[u8], out: &mut [u8]
     ensures out_after { out.new ≡ (audited (table_of t) caller list.now out.old).buffer }
 {
     let table = layout::table_of(&t);
-    let n = table.audit_len(caller, list, out.len());
-    let v = table.audit_into(caller, list, &mut *out);
-    HubAudit {
-        number: records::number_of(v),
-        len: n,
+    match table.audit_into(caller, list, &mut *out) {
+        Ok(n) => HubAudit { number: 0, len: n },
+        Err(refusal) => HubAudit {
+            number: refusal.number(),
+            len: 0,
+        },
     }
 }
 

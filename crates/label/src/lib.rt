@@ -23,7 +23,7 @@ pub fn subset(a: Label, b: Label) -> bool
     a.bits & b.bits == a.bits
 }
 
-// Whether the two have the same tags: what `==` says, tag by tag.
+// Whether the two have the same tags: what `==` says, tag by tag, under the name that contracts have for it.
 pub fn same(a: Label, b: Label) -> bool
     ensures { result ≡ equal_of a b }
 {
@@ -59,6 +59,7 @@ pub fn has_tag(l: Label, t: u8) -> bool
     l.bits & bit(t) != 0
 }
 
+// A tag more and a tag less are two operations of a set; one function of both would take a flag for which is meant.
 pub fn with_tag(l: Label, t: u8) -> Label
     ensures { result ≡ with_tag l t }
 {
@@ -98,8 +99,8 @@ pub fn keeps(group: Label, l: Label) -> bool
     common(l, group) <= 1
 }
 
-// The first label where the test holds, else the second.
-pub fn choose(test: bool, a: Label, b: Label) -> Label
+// The first where the test holds, else the second.
+pub fn choose<T: Copy>(test: bool, a: T, b: T) -> T
     ensures { result ≡ cond test a b }
 {
     if test { a } else { b }
