@@ -2,12 +2,12 @@
 -- Assumes nothing.
 use mathlib.Core.Path.{◌≡◌, refl, ap, ap₂, ◌∙◌}
 use mathlib.Core.Logic.{⊎_elim}
-use mathlib.Core.Bool.{Bool, true, false, ◌&&◌}
+use mathlib.Core.Bool.{Bool, true, ◌&&◌}
 use Prim.Native.Nat.{ℕ, zero, suc, ◌+◌, ◌<◌}
 use native.Mathlib.Nat.{le-suc, le_refl, lt_of_lt_of_le, eq-or-lt_of_le, le_of_suc-le-suc, not-suc-le-zero}
 use native.Mathlib.Numerals.{add-one}
 use Rattle.rules.specs.Bounded.{all_below}
-use Rattle.rules.proofs.Facts.{and_left, and_right, contra}
+use Rattle.rules.proofs.Facts.{and_left, and_right}
 
 pub all-at : (k : ℕ) (f : ℕ → Bool) → all_below k f ≡ true → (n : ℕ) → n < k → f n ≡ true
 unfolding all_below
@@ -28,6 +28,3 @@ all_none f = refl
 pub all_more : (k : ℕ) (f : ℕ → Bool) → all_below k f ≡ true → f k ≡ true → all_below (k + 1) f ≡ true
 unfolding all_below
 all_more k f h e = ap (λ (n : ℕ). all_below n f) (add-one k) ∙ ap₂ ◌&&◌ e h
-
-pub all-not : (k : ℕ) (f : ℕ → Bool) (n : ℕ) → n < k → f n ≡ false → all_below k f ≡ false
-all-not k f n l e = contra (all_below k f) (f n) (λ h. all-at k f h n l) e

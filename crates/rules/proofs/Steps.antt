@@ -23,11 +23,6 @@ use Rattle.rules.specs.declared.Refusal.TheVariants.{Formless}
 
 -- ---- kinds
 
-program-not-free : (k : Kind) → is_program k ≡ true → is_free k ≡ false
-program-not-free Free e = cc
-program-not-free Item e = refl
-program-not-free Program e = refl
-
 program-left : (k : Kind) → is_free k ≡ false → is_item k ≡ false → is_program k ≡ true
 program-left Free e f = cc
 program-left Item e f = cc
