@@ -4,16 +4,14 @@ use mathlib.Core.Path.{◌≡◌, refl, sym, ap, ◌∙◌}
 use mathlib.Core.Bool.{Bool, true, false, cond}
 use mathlib.Core.List.{List, [], ◌∷◌}
 use Prim.Native.Nat.{ℕ, suc, ◌+◌, ◌-◌, ◌≤◌, ◌<◌}
-use native.Mathlib.Numerals.{add-one, one-add}
+use native.Mathlib.Numerals.{add-one}
 use native.Mathlib.Decide.{dec_le}
 use native.Mathlib.Omega.{arith}
 use lib.Dec.{eqb, ltb}
 use lib.ListN.{length, get_or, take, drop, drop_of_length-le, length-drop}
 use lib.Seq.{drop-cons, take_all, take-nil, drop-drop}
 use borrow.Author.Tests.{ne_eqb, lt-ltb, le-ltb, ltb-true, ltb-false}
-use Rattle.std.specs.List.{position_or_len}
 use Rattle.std.specs.Str.{bytes_eq}
-use Rattle.std.proofs.lemmas.List.Recursion.{is_position_or_len}
 use Rattle.text.specs.Bytes.{eq_bytes, index_of}
 use Rattle.text.specs.Lines.{Lines, done, cut, line, before, lines_of, line_end, line_at, next_line}
 
@@ -32,10 +30,6 @@ eq_is [] [] = refl
 eq_is [] (y ∷ ys) = refl
 eq_is (x ∷ xs) [] = refl
 eq_is (x ∷ xs) (y ∷ ys) = rw (eq_is xs ys)
-
-pub index_is : (b : ℕ) (s : List ℕ) → index_of b s ≡ position_or_len (λ x. eqb x b) s
-unfolding index_of
-index_is b s = is_position_or_len (index_of b) (λ x. eqb x b) refl (λ x xs. rw one-add) s
 
 -- what a part to the end holds
 pub rest : (s : List ℕ) (a : ℕ) → take (length s - a) (drop a s) ≡ drop a s
