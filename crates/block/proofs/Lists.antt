@@ -4,9 +4,8 @@ use mathlib.Core.Path.{◌≡◌, refl, sym, ap, ap₂, ◌∙◌}
 use mathlib.Core.Logic.{⊎_elim, ◌⊎◌, inl, inr}
 use mathlib.Core.Bool.{Bool, true, false, ◌&&◌}
 use mathlib.Core.List.{List, [], ◌∷◌, ◌++◌}
-use Prim.Native.Nat.{ℕ, zero, suc, ◌+◌, ◌*◌, ◌-◌, ◌≤◌, ◌<◌, min}
+use Prim.Native.Nat.{ℕ, ◌+◌, ◌*◌, ◌-◌, ◌≤◌, ◌<◌, min}
 use native.Mathlib.Numerals.{add-one}
-use native.Mathlib.Nat.{sub-zero, zero-sub, suc-sub-suc}
 use native.Mathlib.Omega.{arith}
 use lib.Arith.{lt_of_le-ne}
 use lib.Dec.{eqb, ltb}
@@ -17,13 +16,8 @@ use Rattle.rules.proofs.Facts.{either}
 use Rattle.block.specs.Block.{all_zero, no_block, block_at, bytes_at, with_block, filled_front}
 use Rattle.std.specs.List.{fold}
 use Rattle.std.proofs.Math.Bool.{and-true, and_assoc}
-use Rattle.std.proofs.lemmas.List.{drop_min, take_min}
+use Rattle.std.proofs.lemmas.List.{drop_min, take_min, drop-replicate}
 use Rattle.block.proofs.Padding.{all-zero}
-
-pub drop-replicate : (n m v : ℕ) → drop n (replicate m v) ≡ replicate (m - n) v
-drop-replicate zero m v = ap (λ (k : ℕ). replicate k v) (sym (sub-zero m))
-drop-replicate (suc n) zero v = ap (λ (k : ℕ). replicate k v) (sym (zero-sub (suc n)))
-drop-replicate (suc n) (suc m) v = drop-replicate n m v ∙ ap (λ (k : ℕ). replicate k v) (sym (suc-sub-suc m n))
 
 -- a turn that copies element j of s to place at + j
 pub paste_more : (d : List ℕ) (at : ℕ) (s : List ℕ) (j : ℕ) {o : List ℕ} → o ≡ paste d at s j → at + j < length d → j < length s

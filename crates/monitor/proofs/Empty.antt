@@ -15,7 +15,7 @@ use Rattle.label.proofs.Order.{equal_refl}
 use Rattle.entity.specs.declared.Entity.{Entity}
 use Rattle.entity.specs.Entity.{free_entity, bare}
 use Rattle.block.specs.Block.{all_zero, block_at}
-use Rattle.block.proofs.Lists.{drop-replicate}
+use Rattle.std.proofs.lemmas.List.{drop-replicate}
 use Rattle.monitor.specs.declared.Table.{Table}
 use Rattle.monitor.specs.Table.{place_formed, formed, no_content, empty_table}
 use Rattle.monitor.proofs.Form.{placed}

@@ -1,6 +1,6 @@
 use Rattle.std.proofs.Common.{ap, ◌∙◌, ◌++◌, ℕ, List, length, take}
 use Rattle.block.specs.Block.{no_block, padded}
-use Rattle.block.proofs.Lists.{drop-replicate}
+use Rattle.std.proofs.lemmas.List.{drop-replicate}
 use Rattle.block.proofs.pad.Goals as goal
 
 -- `block::pad` meets its contract. Assumes nothing.
