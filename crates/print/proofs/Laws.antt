@@ -8,9 +8,6 @@ use Rattle.print.specs.Lines.{digit_text, hex_text, data_text, call_line, digits
 
 -- ---- bytes behind a line
 
-pub put_room : (x b : List ℕ) (room : ℕ) → room + length x ≡ line_size → x ++ take room b ≡ line_with x b
-put_room x b room h = let e : room ≡ line_size - length x = omega arith in rw e refl
-
 take-parts : (n : ℕ) (a b : List ℕ) → take n (a ++ b) ≡ take n a ++ take (n - length a) b
 take-parts zero a b = let e : 0 - length a ≡ 0 = omega arith in rw e refl
 take-parts (suc n) [] b = let e : suc n - 0 ≡ suc n = omega arith in rw e refl
