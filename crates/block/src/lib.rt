@@ -5,6 +5,7 @@
 ghost use Rattle.std.specs.Prelude.{◌≡◌, drop};
 ghost use Rattle.block.specs.Block.{all_zero, no_block, padded, block_at, bytes_at, filled_front};
 
+// A block of zeros, named for what it is: an array's `Default` would say it less plainly.
 pub fn empty() -> [u8; 64]
     ensures { result ≡ no_block }
 {

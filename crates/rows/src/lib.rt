@@ -25,7 +25,8 @@ pub struct EntityColumns {
     pub content: usize,
 }
 
-// What a line of the entities says: a slot, the entity in it, and its content as a block.
+// What a line of the entities says: a slot, the entity in it, and its content as the block that a table stores, of which the
+// entity has the length.
 #[derive(Clone, Copy)]
 pub struct EntityRow {
     pub slot: u8,

@@ -81,7 +81,7 @@ impl<'a> Rest<'a> {
     }
 }
 
-// A text from the line of names of the groups on.
+// A text from the line of names of the groups on; from that of the calls it is one empty line further.
 pub fn groups(text: &[u8]) -> Rest<'_>
     ensures { (result.text.now ≡ text.now) × (result.place ≡ groups_at text.now) }
 {
