@@ -20,16 +20,16 @@ pub fn append(line: &[u8], out: &mut [u8], n: usize) -> Option<usize>
     Some(end)
 }
 
-// A chunk of a list's lines: the place of the next record, and how many bytes of a lent buffer they take. It holds no bytes:
-// the buffer is the caller's, who goes on at that place.
+// A chunk of output: the place of what comes next, and how many bytes of a lent buffer the chunk takes. It holds no bytes: the
+// buffer is the caller's, who goes on at that place.
 #[derive(Clone, Copy)]
-pub struct ListChunk {
+pub struct Chunk {
     pub at: usize,
     pub len: usize,
 }
 
 // The lines of a list's records from a place on go to the front of a lent buffer, as long as a line has room there.
-pub fn record_lines(list: &[u8], from: usize, out: &mut [u8]) -> ListChunk
+pub fn record_lines(list: &[u8], from: usize, out: &mut [u8]) -> Chunk
     ensures value { result ≡ as_list_chunk (chunk (record_pieces list.now) (length out.old) from) }
     ensures out_after { out.new ≡ filled (chunk (record_pieces list.now) (length out.old) from).0 out.old }
 {
@@ -43,5 +43,5 @@ pub fn record_lines(list: &[u8], from: usize, out: &mut [u8]) -> ListChunk
         len = end;
         at += records::SIZE;
     }
-    ListChunk { at, len }
+    Chunk { at, len }
 }

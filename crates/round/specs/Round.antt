@@ -13,8 +13,8 @@ use Rattle.textblocks.specs.Blocks.{calls_at}
 use Rattle.load.specs.Load.{verdict_number, verdict_line, verdict_of, on_accepted, load_of}
 use Rattle.textblocks.specs.CallsIn.{call_columns_in, calls_of, call_at}
 use Rattle.print.specs.Lines.{line_size, refused_line}
+use Rattle.chunks.specs.declared.Chunk.{Chunk}
 use Rattle.chunks.specs.Chunks.{Pieces, concat, chunk, chunks}
-use Rattle.round.specs.declared.CallsChunk.{CallsChunk}
 use Rattle.round.specs.Played.{Making, lines, entries, made_of, played}
 
 -- ---- by the program's functions
@@ -37,8 +37,8 @@ call_pieces text m = record {
   most = m.most;
 }
 
-abbrev pub as_calls_chunk : List ℕ × (ℕ × Table) → CallsChunk
-as_calls_chunk r = record { table = r.1.1; at = r.1.0; len = length r.0 }
+abbrev pub as_calls_chunk : List ℕ × (ℕ × Table) → Chunk
+as_calls_chunk r = record { at = r.1.0; len = length r.0 }
 
 -- ---- what hubcalls prints
 

@@ -10,6 +10,7 @@ ghost use Rattle.round.specs.Played.{Making, lines, entries, IsShort, bytes_show
 ghost use Rattle.round.specs.Round.{first_at, call_pieces, as_calls_chunk};
 
 use callrows::CallRow;
+use chunks::Chunk;
 use monitor::Table;
 use print::Line;
 use rules::Call;
@@ -79,10 +80,8 @@ fn performed<M: Made>(table: &mut Table, call: Call, put: &[u8]) -> Line
     ensures after { table.new ≡ (performed M.making table.old call put.now).1 }
 {
     let mut buffer = [0u8; 64];
-    let reply = table.perform(call, put, &mut buffer);
-    let answer = reply.answer;
+    let answer = table.play(call, put, &mut buffer);
     let entry = answer.entry;
-    *table = reply.table;
     M::line(entry, handing::front(&buffer, bytes_shown(call, entry[4])))
 }
 
@@ -104,32 +103,22 @@ pub fn first_at(text: &[u8]) -> usize
     text::next_line(text, textblocks::calls_at(text))
 }
 
-// A chunk of a text's calls, played: the table after them, the place of the next line, and how many bytes of a lent buffer
-// they take. All were played where that place is the text's end. It holds no bytes: the buffer is the caller's, who goes on at
-// that place.
-#[derive(Clone, Copy)]
-pub struct CallsChunk {
-    pub table: Table,
-    pub at: usize,
-    pub len: usize,
-}
-
-// Plays the calls of a text from a place and a table on. What is made of them goes to the front of a lent buffer, as long as
-// the most that can be made of a row has room there.
-pub fn play_calls<M: Made>(text: &[u8], from: usize, start: Table, out: &mut [u8]) -> CallsChunk
-    ensures value { result ≡ as_calls_chunk (chunk (call_pieces text.now M.making) (length out.old) (from, start)) }
-    ensures out_after { out.new ≡ filled (chunk (call_pieces text.now M.making) (length out.old) (from, start)).0 out.old }
+// Plays the calls of a text from a place on, on a table, in place. What is made of them goes to the front of a lent buffer, as
+// long as the most that can be made of a row has room there. All were played where the place it answers is the text's end.
+pub fn play_calls<M: Made>(text: &[u8], from: usize, table: &mut Table, out: &mut [u8]) -> Chunk
+    ensures value { result ≡ as_calls_chunk (chunk (call_pieces text.now M.making) (length out.old) (from, table.old)) }
+    ensures table_after { table.new ≡ (chunk (call_pieces text.now M.making) (length out.old) (from, table.old)).1.1 }
+    ensures out_after { out.new ≡ filled (chunk (call_pieces text.now M.making) (length out.old) (from, table.old)).0 out.old }
 {
     let columns = textblocks::call_columns_in(text);
-    let mut table = start;
     let mut at = from;
     let mut len = 0;
     // An iterator over the lines would count the place beside them: the next chunk begins there.
     while at < text.len() && M::most() <= out.len() - len {
         let row = callrows::call_row(columns, text::line_at(text, at));
-        let line = play::<M>(&mut table, row);
+        let line = play::<M>(table, row);
         len = chunks::append(&line, out, len).unwrap();
         at = text::next_line(text, at);
     }
-    CallsChunk { table, at, len }
+    Chunk { at, len }
 }

@@ -59,7 +59,8 @@ pub returns-else-most-out : goal.returns-else-most-out
 returns-else-most-out g c =
     let l = c.loop-at in let e = filling_full l.invariant (omega (arith, c.if-most-out.false, c.most.ensures)) in
     record {
-      value = (λ i. record { table = (sym e.state i).1; at = (sym e.state i).0; len = e.len i });
+      value = (λ i. record { at = (sym e.state i).0; len = e.len i });
+      table_after = (λ i. (sym e.state i).1);
       out_after = e.held;
     }
 
@@ -67,6 +68,7 @@ pub returns-after-loop-at : goal.returns-after-loop-at
 returns-after-loop-at g c =
     let e = filling_done c.loop-at.invariant (le-ltb _ _ c.loop-at-test.false) in
     record {
-      value = (λ i. record { table = (sym e.state i).1; at = (sym e.state i).0; len = e.len i });
+      value = (λ i. record { at = (sym e.state i).0; len = e.len i });
+      table_after = (λ i. (sym e.state i).1);
       out_after = e.held;
     }
