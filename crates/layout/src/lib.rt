@@ -91,37 +91,45 @@ fn mapped<A: Copy, B, F: Fn(A) -> B, const N: usize>(xs: &[A; N], f: F) -> [B; N
     )
 }
 
-// The table that a struct stands for. Made in a frame of its own, which spares stack in the calls that follow: without, tried,
-// they miss what hub.h promises.
-#[inline(never)]
+// The table that a struct stands for goes to a table, in place.
+pub fn read_table(t: &HubTable, table: &mut Table)
+    ensures { table.new ≡ table_of t.now }
+{
+    table.entities = mapped(&t.slots, Entity::from);
+    table.content = t.content;
+    table.groups = mapped(&t.groups, |bits| Label { bits });
+    table.count = t.count;
+}
+
+// The struct that stands for a table goes to a struct, in place.
+pub fn write_table(table: &Table, out: &mut HubTable)
+    ensures { out.new ≡ struct_of table.now }
+{
+    out.slots = mapped(&table.entities, HubSlot::from);
+    out.content = table.content;
+    out.groups = mapped(&table.groups, |l| l.bits);
+    out.count = table.count;
+}
+
+// The table that a struct stands for.
 pub fn table_of(t: &HubTable) -> Table
     ensures { result ≡ table_of t.now }
 {
-    Table {
-        entities: mapped(&t.slots, Entity::from),
-        content: t.content,
-        groups: mapped(&t.groups, |bits| Label { bits }),
-        count: t.count,
-    }
+    let mut table = Table::empty();
+    read_table(t, &mut table);
+    table
 }
 
-// The struct that stands for a table. Made in a frame of its own, as `table_of` is.
-#[inline(never)]
-pub fn struct_of(t: &Table) -> HubTable
-    ensures { result ≡ struct_of t.now }
-{
-    struct_here(t)
-}
-
-// The same, left to be inlined, for loading and the empty table: over `struct_of` loading takes 40,088 bytes of stack, where
-// hub.h promises 32,768, and with this one in the nine calls too they take up to 40,168.
-pub fn struct_here(table: &Table) -> HubTable
+// The struct that stands for a table.
+pub fn struct_of(table: &Table) -> HubTable
     ensures { result ≡ struct_of table.now }
 {
-    HubTable {
-        slots: mapped(&table.entities, HubSlot::from),
-        content: table.content,
-        groups: mapped(&table.groups, |l| l.bits),
-        count: table.count,
-    }
+    let mut out = HubTable {
+        slots: [HubSlot::from(entity::free_entity()); 32],
+        content: [0u8; 2048],
+        groups: [0u64; 8],
+        count: 0,
+    };
+    write_table(table, &mut out);
+    out
 }
