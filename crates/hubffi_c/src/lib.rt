@@ -48,7 +48,8 @@ fn played(t: &HubTable, call: Call, bytes: &[u8], out: &mut [u8]) -> HubReply
     ensures value { result ≡ reply_to t.now (call_with call bytes.now out.old) }
     ensures out_after { out.new ≡ buffer_after (table_of t.now) call bytes.now out.old }
 {
-    let mut table = layout::table_of(t);
+    let mut table = Table::empty();
+    layout::read_table(t, &mut table);
     let answer = table.play(call, bytes, out);
     let entry = answer.entry;
     let outcome = answer.outcome;
