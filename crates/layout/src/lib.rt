@@ -9,7 +9,6 @@ use entity::Entity;
 use label::Label;
 use monitor::Table;
 use rules::Kind;
-use std::array;
 
 // What stands in a slot. The kind is 0 for a free slot, 1 for an item, 2 for a program; a table with another kind lacks the
 // form. Kind and labels are C's numbers: a `From` between Label and u64 would stand in a crate below, for C alone.
@@ -77,27 +76,23 @@ impl From<Entity> for HubSlot {
     }
 }
 
-// An array of what a function gives of each element. An array's own `map` was tried: it misses the stack that hub.h promises.
-fn mapped<A: Copy, B, F: Fn(A) -> B, const N: usize>(xs: &[A; N], f: F) -> [B; N]
+// What a function gives of each element of an array goes to another, in place.
+fn fill<A: Copy, B: Copy, F: Fn(A) -> B, const N: usize>(xs: &[A; N], f: F, out: &mut [B; N])
     requires { F.IsAlwaysCallable f }
-    ensures { AllZip (λ x y. F.post f x y) xs.now result }
+    ensures { AllZip (λ x y. F.post f x y) xs.now out.new }
 {
-    array::from_fn(
-        |i| -> B
-            requires below { i < N }
-            requires callable { (x : A) → F.pre f x }
-            ensures { (x : A) × (x ≡ slice_index_or xs.entry.now i x) × F.post f x result }
-        { f(xs[i]) },
-    )
+    for i in 0..N {
+        out[i] = f(xs[i]);
+    }
 }
 
 // The table that a struct stands for goes to a table, in place.
 pub fn read_table(t: &HubTable, table: &mut Table)
     ensures { table.new ≡ table_of t.now }
 {
-    table.entities = mapped(&t.slots, Entity::from);
+    fill(&t.slots, Entity::from, &mut table.entities);
     table.content = t.content;
-    table.groups = mapped(&t.groups, |bits| Label { bits });
+    fill(&t.groups, |bits| Label { bits }, &mut table.groups);
     table.count = t.count;
 }
 
@@ -105,9 +100,9 @@ pub fn read_table(t: &HubTable, table: &mut Table)
 pub fn write_table(table: &Table, out: &mut HubTable)
     ensures { out.new ≡ struct_of table.now }
 {
-    out.slots = mapped(&table.entities, HubSlot::from);
+    fill(&table.entities, HubSlot::from, &mut out.slots);
     out.content = table.content;
-    out.groups = mapped(&table.groups, |l| l.bits);
+    fill(&table.groups, |l| l.bits, &mut out.groups);
     out.count = table.count;
 }
 

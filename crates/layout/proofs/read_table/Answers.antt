@@ -10,6 +10,6 @@ pub returns : goal.returns
 unfolding table_of
 returns c =
     rw (
-      map_of _ slot_entity c.args.t.now.slots c.mapped-table.result (λ x y p. search rules) c.mapped-table.ensures,
-      map_of _ label_of c.args.t.now.groups c.mapped-table-2.result (λ x y p. search rules) c.mapped-table-2.ensures,
+      map_of _ slot_entity c.args.t.now.slots c.fill.new.out (λ x y p. search rules) c.fill.ensures,
+      map_of _ label_of c.args.t.now.groups c.fill-2.new.out (λ x y p. search rules) c.fill-2.ensures,
     )

@@ -9,6 +9,6 @@ pub returns : goal.returns
 unfolding struct_of
 returns c =
     rw (
-      map_of _ slot_as c.args.table.now.entities c.mapped-out.result (λ x y p. search rules) c.mapped-out.ensures,
-      map_of _ bits_of c.args.table.now.groups c.mapped-out-2.result (λ x y p. search rules) c.mapped-out-2.ensures,
+      map_of _ slot_as c.args.table.now.entities c.fill.new.out (λ x y p. search rules) c.fill.ensures,
+      map_of _ bits_of c.args.table.now.groups c.fill-2.new.out (λ x y p. search rules) c.fill-2.ensures,
     )
