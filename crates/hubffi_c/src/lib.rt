@@ -5,13 +5,15 @@
 ghost use Rattle.std.specs.Prelude.{◌≡◌};
 ghost use Rattle.rules.specs.Calls.{put, show, send, fetch, add_tag, drop_tag, create, release, hand};
 ghost use Rattle.monitor.specs.Table.{empty_table};
-ghost use Rattle.monitor.specs.Calls.{shown_buffer, audited};
+ghost use Rattle.label.specs.Calls.{call_with};
+ghost use Rattle.monitor.specs.Calls.{shown_buffer, buffer_after, audited};
 ghost use Rattle.load.specs.Load.{load_of};
 ghost use Rattle.layout.specs.Struct.{table_of, struct_of};
-ghost use Rattle.hubffi_c.specs.Answers.{answered, reply_to, audit_answer, loaded_as};
+ghost use Rattle.hubffi_c.specs.Answers.{reply_to, audit_answer, loaded_as};
 
 use layout::HubTable;
-use monitor::{Reply, Table};
+use monitor::Table;
+use rules::Call;
 
 // What a call hands back: the next table, the number returned, and the record. Here and below a number, and a line, is C's: 0
 // where nothing is refused.
@@ -40,32 +42,27 @@ pub struct HubLoaded {
     pub line: usize,
 }
 
-// The struct of a next table. A call of its own spares stack: with `layout::struct_of` straight in `answered`, show takes 39,832
-// bytes, where hub.h promises 32,768.
-fn next_struct(next: &Table) -> HubTable
-    ensures { result ≡ struct_of next.now }
-{
-    layout::struct_of(next)
-}
-
-// A refused call hands back the very struct that came in.
+// A call, played on the table of a struct. A refused call hands back the very struct that came in. The table is read and
+// written in place, which spares stack: with `layout::table_of` here the calls take up to 30,004 bytes, so 21,812.
 #[tactic(auto, unfolding(crate::specs::Answers::answered))]
-fn answered(t: HubTable, r: Reply) -> HubReply
-    ensures { result ≡ answered t r }
+fn played(t: &HubTable, call: Call, bytes: &[u8], out: &mut [u8]) -> HubReply
+    ensures value { result ≡ reply_to t.now (call_with call bytes.now out.old) }
+    ensures out_after { out.new ≡ buffer_after (table_of t.now) call bytes.now out.old }
 {
-    let next = r.table;
-    let answer = r.answer;
+    let mut table = Table::empty();
+    layout::read_table(t, &mut table);
+    let answer = table.play(call, bytes, out);
     let entry = answer.entry;
     let outcome = answer.outcome;
-    let table = match outcome {
-        Ok(()) => next_struct(&next),
-        Err(_) => t,
-    };
-    HubReply {
-        table,
+    let mut reply = HubReply {
+        table: *t,
         number: records::number_of(outcome),
         entry,
+    };
+    if outcome.is_ok() {
+        layout::write_table(&table, &mut reply.table);
     }
+    reply
 }
 
 // 1: given bytes replace the caller's content.
@@ -73,16 +70,17 @@ fn answered(t: HubTable, r: Reply) -> HubReply
 pub extern "C" fn hub_put(t: HubTable, caller: u8, bytes: &[u8]) -> HubReply
     ensures { result ≡ reply_to t (put caller bytes.now) }
 {
-    answered(t, layout::table_of(&t).put(caller, bytes))
+    played(&t, Call::Put(caller), bytes, &mut [])
 }
 
 // 2: the caller's content goes to the front of a lent buffer: as many bytes as byte 4 of the record says.
 #[unsafe(no_mangle)]
+#[tactic(auto, unfolding(monitor::specs::Calls::shown_buffer, monitor::specs::Calls::buffer_after))]
 pub extern "C" fn hub_show(t: HubTable, caller: u8, out: &mut [u8]) -> HubReply
     ensures value { result ≡ reply_to t (show caller out.old) }
     ensures out_after { out.new ≡ shown_buffer (table_of t) caller out.old }
 {
-    answered(t, layout::table_of(&t).show_into(caller, out))
+    played(&t, Call::Show(caller), &[], out)
 }
 
 // 3: the caller's content replaces the other's, if flow from caller to other is allowed.
@@ -90,7 +88,7 @@ pub extern "C" fn hub_show(t: HubTable, caller: u8, out: &mut [u8]) -> HubReply
 pub extern "C" fn hub_send(t: HubTable, caller: u8, other: u8) -> HubReply
     ensures { result ≡ reply_to t (send caller other) }
 {
-    answered(t, layout::table_of(&t).send(caller, other))
+    played(&t, Call::Send(caller, other), &[], &mut [])
 }
 
 // 4: the other's content replaces the caller's, if flow from other to caller is allowed.
@@ -98,7 +96,7 @@ pub extern "C" fn hub_send(t: HubTable, caller: u8, other: u8) -> HubReply
 pub extern "C" fn hub_fetch(t: HubTable, caller: u8, other: u8) -> HubReply
     ensures { result ≡ reply_to t (fetch caller other) }
 {
-    answered(t, layout::table_of(&t).fetch(caller, other))
+    played(&t, Call::Fetch(caller, other), &[], &mut [])
 }
 
 // 5: a tag is added to one of the caller's two sets.
@@ -106,7 +104,7 @@ pub extern "C" fn hub_fetch(t: HubTable, caller: u8, other: u8) -> HubReply
 pub extern "C" fn hub_add(t: HubTable, caller: u8, set: u8, tag: u8) -> HubReply
     ensures { result ≡ reply_to t (add_tag caller set tag) }
 {
-    answered(t, layout::table_of(&t).add_tag(caller, set, tag))
+    played(&t, Call::Add(caller, set, tag), &[], &mut [])
 }
 
 // 6: a tag is dropped from one of the caller's two sets.
@@ -114,7 +112,7 @@ pub extern "C" fn hub_add(t: HubTable, caller: u8, set: u8, tag: u8) -> HubReply
 pub extern "C" fn hub_drop(t: HubTable, caller: u8, set: u8, tag: u8) -> HubReply
     ensures { result ≡ reply_to t (drop_tag caller set tag) }
 {
-    answered(t, layout::table_of(&t).drop_tag(caller, set, tag))
+    played(&t, Call::Drop(caller, set, tag), &[], &mut [])
 }
 
 // 7: a new entity in a free slot, with the caller's S and I.
@@ -122,7 +120,7 @@ pub extern "C" fn hub_drop(t: HubTable, caller: u8, set: u8, tag: u8) -> HubRepl
 pub extern "C" fn hub_create(t: HubTable, caller: u8, other: u8, set: u8) -> HubReply
     ensures { result ≡ reply_to t (create caller other set) }
 {
-    answered(t, layout::table_of(&t).create(caller, other, set))
+    played(&t, Call::Create(caller, other, set), &[], &mut [])
 }
 
 // 8: the caller itself, or an item with the caller's S and I, is given up.
@@ -130,7 +128,7 @@ pub extern "C" fn hub_create(t: HubTable, caller: u8, other: u8, set: u8) -> Hub
 pub extern "C" fn hub_release(t: HubTable, caller: u8, other: u8) -> HubReply
     ensures { result ≡ reply_to t (release caller other) }
 {
-    answered(t, layout::table_of(&t).release(caller, other))
+    played(&t, Call::Release(caller, other), &[], &mut [])
 }
 
 // 9: the other, a program, gains one right that the caller has.
@@ -138,7 +136,7 @@ pub extern "C" fn hub_release(t: HubTable, caller: u8, other: u8) -> HubReply
 pub extern "C" fn hub_hand(t: HubTable, caller: u8, other: u8, set: u8, tag: u8) -> HubReply
     ensures { result ≡ reply_to t (hand caller other set tag) }
 {
-    answered(t, layout::table_of(&t).hand(caller, other, set, tag))
+    played(&t, Call::Hand(caller, other, set, tag), &[], &mut [])
 }
 
 // The records of a list that the caller's S covers go to the front of a lent buffer, in order. A buffer as long as the
@@ -163,7 +161,7 @@ pub extern "C" fn hub_audit(t: HubTable, caller: u8, list: &[u8], out: &mut [u8]
 pub extern "C" fn hub_empty() -> HubTable
     ensures { result ≡ struct_of empty_table }
 {
-    layout::struct_here(&Table::empty())
+    layout::struct_of(&Table::empty())
 }
 
 // The table of a text. The calls of the text are read for their form and not played.
@@ -174,7 +172,7 @@ pub extern "C" fn hub_load(text: &[u8]) -> HubLoaded
     let l = load::load(text);
     let v = l.verdict;
     HubLoaded {
-        table: layout::struct_here(&l.table),
+        table: layout::struct_of(&l.table),
         number: load::verdict_number(v),
         line: load::verdict_line(v),
     }

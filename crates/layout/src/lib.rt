@@ -9,7 +9,6 @@ use entity::Entity;
 use label::Label;
 use monitor::Table;
 use rules::Kind;
-use std::array;
 
 // What stands in a slot. The kind is 0 for a free slot, 1 for an item, 2 for a program; a table with another kind lacks the
 // form. Kind and labels are C's numbers: a `From` between Label and u64 would stand in a crate below, for C alone.
@@ -77,51 +76,55 @@ impl From<Entity> for HubSlot {
     }
 }
 
-// An array of what a function gives of each element. An array's own `map` was tried: it misses the stack that hub.h promises.
-fn mapped<A: Copy, B, F: Fn(A) -> B, const N: usize>(xs: &[A; N], f: F) -> [B; N]
+// What a function gives of each element of an array goes to another, in place.
+fn fill<A: Copy, B: Copy, F: Fn(A) -> B, const N: usize>(xs: &[A; N], f: F, out: &mut [B; N])
     requires { F.IsAlwaysCallable f }
-    ensures { AllZip (λ x y. F.post f x y) xs.now result }
+    ensures { AllZip (λ x y. F.post f x y) xs.now out.new }
 {
-    array::from_fn(
-        |i| -> B
-            requires below { i < N }
-            requires callable { (x : A) → F.pre f x }
-            ensures { (x : A) × (x ≡ slice_index_or xs.entry.now i x) × F.post f x result }
-        { f(xs[i]) },
-    )
+    for i in 0..N {
+        out[i] = f(xs[i]);
+    }
 }
 
-// The table that a struct stands for. Made in a frame of its own, which spares stack in the calls that follow: without, tried,
-// they miss what hub.h promises.
-#[inline(never)]
+// The table that a struct stands for goes to a table, in place.
+pub fn read_table(t: &HubTable, table: &mut Table)
+    ensures { table.new ≡ table_of t.now }
+{
+    fill(&t.slots, Entity::from, &mut table.entities);
+    table.content = t.content;
+    fill(&t.groups, |bits| Label { bits }, &mut table.groups);
+    table.count = t.count;
+}
+
+// The struct that stands for a table goes to a struct, in place.
+pub fn write_table(table: &Table, out: &mut HubTable)
+    ensures { out.new ≡ struct_of table.now }
+{
+    fill(&table.entities, HubSlot::from, &mut out.slots);
+    out.content = table.content;
+    fill(&table.groups, |l| l.bits, &mut out.groups);
+    out.count = table.count;
+}
+
+// The table that a struct stands for.
 pub fn table_of(t: &HubTable) -> Table
     ensures { result ≡ table_of t.now }
 {
-    Table {
-        entities: mapped(&t.slots, Entity::from),
-        content: t.content,
-        groups: mapped(&t.groups, |bits| Label { bits }),
-        count: t.count,
-    }
+    let mut table = Table::empty();
+    read_table(t, &mut table);
+    table
 }
 
-// The struct that stands for a table. Made in a frame of its own, as `table_of` is.
-#[inline(never)]
-pub fn struct_of(t: &Table) -> HubTable
-    ensures { result ≡ struct_of t.now }
-{
-    struct_here(t)
-}
-
-// The same, left to be inlined, for loading and the empty table: over `struct_of` loading takes 40,088 bytes of stack, where
-// hub.h promises 32,768, and with this one in the nine calls too they take up to 40,168.
-pub fn struct_here(table: &Table) -> HubTable
+// The struct that stands for a table.
+pub fn struct_of(table: &Table) -> HubTable
     ensures { result ≡ struct_of table.now }
 {
-    HubTable {
-        slots: mapped(&table.entities, HubSlot::from),
-        content: table.content,
-        groups: mapped(&table.groups, |l| l.bits),
-        count: table.count,
-    }
+    let mut out = HubTable {
+        slots: [HubSlot::from(entity::free_entity()); 32],
+        content: [0u8; 2048],
+        groups: [0u64; 8],
+        count: 0,
+    };
+    write_table(table, &mut out);
+    out
 }
