@@ -29,7 +29,7 @@ pub struct Fault {
     pub line: usize,
 }
 
-// What loading comes to: the text's table; of a refused text the empty one.
+// What loading comes to: the text's table; of a refused text the empty one, by document 01, and so no `Result` of a table.
 #[derive(Clone, Copy)]
 pub struct Loaded {
     pub verdict: Result<(), Fault>,
@@ -121,7 +121,7 @@ fn verdict(text: &[u8], marks: Marks) -> Result<(), Fault>
     refuse_at(Refusal::EntityBreaksGroup, marks.breaks)
 }
 
-// Loads a text. The table is filled in place: a `Result` of it takes more stack than C is promised.
+// Loads a text.
 pub fn load(text: &[u8]) -> Loaded
     ensures { result ≡ load_of text.now }
 {
