@@ -17,8 +17,8 @@ pub struct Answer {
     pub entry: [u8; records::SIZE],
 }
 
-// What a call does where it is allowed: what it writes to which slot, and how many bytes it moves. Slot, entity and block are
-// three fields, since the Table keeps them in two arrays by the slot; what fills a table without a call moves nothing.
+// What a call does where it is allowed: what it writes to which slot, and how many bytes it moves. A struct of slot,
+// entity and block would be built for `set_slot` alone and taken apart there.
 #[derive(Clone, Copy)]
 pub struct Effect {
     pub slot: u8,

@@ -20,7 +20,7 @@ pub struct CallColumns {
     pub bytes: usize,
 }
 
-// Which fields of a line a call uses, beside the caller: a row of document 01's table of calls, with a flag for each column.
+// Which fields of a line a call uses, beside the caller: a flag for each column. An enum of the combinations would say no more.
 #[derive(Clone, Copy)]
 pub struct Uses {
     pub other: bool,
@@ -106,7 +106,7 @@ fn with_uses(other: bool, set: bool, tag: bool, bytes: bool) -> Uses
     }
 }
 
-// A match on what the call is: document 01's table of calls has a row for each.
+// A match on what the call is, in document 01's order of the calls.
 fn uses_of(call: Call) -> Uses
     ensures { result ≡ uses_of call }
 {
@@ -123,8 +123,8 @@ fn uses_of(call: Call) -> Uses
     }
 }
 
-// What a field says as a number; 255 where it says none, as `-` does. A call holds only the numbers that it uses, and `fits`
-// sees to it that the fields of those are numbers.
+// What a field says as a number; 255 where it says none, as `-` does. No Option, which would be undone at each of the nine calls: a
+// call holds only the numbers that it uses, and `fits` sees to it that the fields of those are numbers.
 fn number(f: &[u8]) -> u8
     ensures { result ≡ number_in f.now }
 {

@@ -146,7 +146,7 @@ impl Entity {
         }
     }
 
-    // The entity with another set in place of the one that a set field names: of that one, what is made of it.
+    // The entity with the set that a set field names replaced by what `change` makes of it.
     fn relabel<F: Fn(Label) -> Label>(self, set: u8, change: F) -> Entity
         requires { F.IsAlwaysCallable change }
         ensures { (f : Label → Label) → ((l r : Label) → F.post change l r → r ≡ f l) → result ≡ entity_as (relabel set f (bare self)) self.len }

@@ -14,7 +14,7 @@ pub struct Filled<'a> {
 }
 
 // The first n of some items, where they stand; all of them where there are fewer. What a part holds and where it stands are two
-// equations, here and wherever a part is handed on: no one word of contracts says both.
+// equations, here and wherever a part is handed on: no single definition says both.
 pub fn front<'a, T>(all: &'a [T], n: usize) -> &'a [T]
     ensures { (result.now ≡ take n all.now) × (result.ref_ptr ≡ all.entry.ref_ptr) }
 {

@@ -45,8 +45,8 @@ pub fn union(a: Label, b: Label) -> Label
     }
 }
 
-// The number with that tag alone, and with none for a tag above 63, which is in no label: has_tag answers false, and with_tag
-// and without_tag give the label as it is.
+// The number of that tag alone; 0 for a tag above 63, which is in no label: has_tag answers false, and with_tag and without_tag
+// give the label as it is.
 fn bit(t: u8) -> u64
     ensures { result ≡ cond (ltb t 64) (2 ^ t) 0 }
 {

@@ -36,7 +36,7 @@ pub struct Loaded {
     pub table: Table,
 }
 
-// The groups of rows go to an empty table, in place.
+// The groups of rows go to an empty table, in place. The table counts its groups, in fixed memory; a ninth ends them.
 fn group_rows(rows: Rest<'_>, table: &mut Table)
     requires { table.old ≡ empty_table }
     ensures { table.new ≡ empty_with (groups_from [] (lines_at rows.entry.text.now rows.entry.place.at)) }
@@ -149,14 +149,14 @@ pub fn load(text: &[u8]) -> Loaded
     }
 }
 
-// The number that a verdict returns; 0 where the text is accepted.
+// The number that a verdict returns; document 01's 0 where the text is accepted.
 pub fn verdict_number(v: Result<(), Fault>) -> u8
     ensures { result ≡ verdict_number v }
 {
     records::number_of(v.map_err(|fault| fault.refusal))
 }
 
-// The line that a verdict returns; 0 where the text is accepted.
+// The line that a verdict returns; document 01's 0 where the text is accepted.
 pub fn verdict_line(v: Result<(), Fault>) -> usize
     ensures { result ≡ verdict_line v }
 {

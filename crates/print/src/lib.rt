@@ -90,7 +90,7 @@ pub fn record_line(src: &[u8]) -> Line
     record
 }
 
-// The number, here and below, is any of a byte, as callers have it: a `Refusal` would take fewer, and ask more of them.
+// The number, here and below, is any byte: to take a `Refusal` would ask more of callers.
 fn refused(number: u8) -> Line
     ensures { result.items ≡ refused_text ++ decimal_text number }
 {

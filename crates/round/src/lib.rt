@@ -113,7 +113,7 @@ pub fn play_calls<M: Made>(text: &[u8], from: usize, table: &mut Table, out: &mu
     let columns = textblocks::call_columns_in(text);
     let mut at = from;
     let mut len = 0;
-    // An iterator over the lines would count the place beside them: the next chunk begins there.
+    // Not `Rest` of textblocks: the place may be any, its line's number is not known, and the last line may lack its byte 10.
     while at < text.len() && M::most() <= out.len() - len {
         let row = callrows::call_row(columns, text::line_at(text, at));
         let line = play::<M>(table, row);

@@ -68,7 +68,7 @@ pub fn entity_columns(line: &[u8]) -> EntityColumns
     }
 }
 
-// By `same`, name by name: a match on the bytes leaves a goal open at each byte of a name.
+// By `same`, name by name: a match on the bytes leaves a goal open at each byte of a name (tried).
 #[tactic(auto, unfolding(crate::specs::Entities::kind_named))]
 fn kind_named(f: &[u8]) -> Option<Kind>
     ensures { result ≡ kind_named f.now }

@@ -1,3 +1,4 @@
+// What the rules speak of: kinds of entities, refusals, calls.
 #![tactic(auto)]
 
 ghost use Rattle.std.specs.Prelude.{◌≡◌};

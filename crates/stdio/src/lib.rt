@@ -1,7 +1,7 @@
 // Standard input and output, nothing lost without a word.
 //
 // What standard input gives and standard output takes is no fact of the logic. A read that fails because a signal interrupts
-// it counts as failed: the programs catch no signal, so that none does.
+// it counts as failed: the programs catch no signal, so none does.
 #![tactic(auto)]
 
 ghost use Rattle.std.specs.Prelude.{◌<◌, ◌≤◌, length, IfOk};

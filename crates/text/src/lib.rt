@@ -29,7 +29,8 @@ pub fn column(line: &[u8], name: &[u8]) -> usize
     line.split(|b| *b == 32).take_while(|h| *h != name).count()
 }
 
-// A row, split into its fields: where the first 15 start, and where one more would; and how many there are, which may be more.
+// A row, split into its fields: where the first 15 start, and where one more would, in fixed room, since nothing allocates; and how
+// many there are, which may be more.
 #[derive(Clone, Copy)]
 pub struct Row<'a> {
     pub bytes: &'a [u8],
@@ -38,6 +39,7 @@ pub struct Row<'a> {
 }
 
 impl<'a> Row<'a> {
+    // The fields are counted beside the iterator: a row answers how many it has.
     pub fn split(bytes: &'a [u8]) -> Row<'a>
         ensures same_bytes { result.bytes.now ≡ bytes.now }
         ensures fields { record { starts = result.starts; count = result.count } ≡ split_of bytes.now }
@@ -59,7 +61,8 @@ impl<'a> Row<'a> {
         }
     }
 
-    // The field in a column: one of the first 15; nothing in any other.
+    // The field in a column: one of the first 15; nothing in any other. No Option, as in `column`: what a column reads that a row
+    // does not have is never used.
     pub fn field(&self, k: usize) -> &'a [u8]
         ensures { result.now ≡ field_by self.now.bytes.now self.now.starts k }
     {
@@ -93,6 +96,9 @@ pub fn is_header(line: &[u8], names: &[u8]) -> bool
         .split(|b| *b == 32)
         .all(|name| column(line, name) < columns)
 }
+
+// A text and a place in it are two parameters in the three functions below: `Rest` of textblocks, the struct of both, also has the
+// line's number, which is not known of any place.
 
 // The place of the byte 10 that ends the line at a place; the text's end, or a place beyond it, where none is left: a line ends
 // there, too.

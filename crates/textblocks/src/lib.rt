@@ -18,8 +18,8 @@ pub struct Place {
     pub line: usize,
 }
 
-// A block of a text: the columns that its rows have. Groups have one. The matches on it ask what the block is;
-// none picks a step to run.
+// A block of a text: the columns that its rows have. Groups have one. A match on it picks the reader of a block's rows; a trait would
+// have three instances of three functions in place of three matches, which is no plainer.
 #[derive(Clone, Copy)]
 pub enum Block {
     Entities(EntityColumns),
@@ -68,7 +68,7 @@ impl<'a> Rest<'a> {
         }
     }
 
-    // What is left past the next empty line. No index is counted, and self is left where the loop stops.
+    // What is left past the next empty line. No index is counted; a `find` would do the same, with its result thrown away.
     fn past_empty(mut self) -> Self
         ensures { (result.text.now ≡ self.entry.text.now) × (result.place ≡ past_empty self.entry.text.now self.entry.place) }
     {

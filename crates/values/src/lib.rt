@@ -23,7 +23,8 @@ pub fn digit(b: u8) -> Option<u8>
     }
 }
 
-// Decimal digits of a value of at most max.
+// Decimal digits of a value of at most max. Here and for sets std's parsers do not serve: they want a `str`, and take a sign and
+// upper case.
 fn digits(s: &[u8], max: u8) -> Option<u8>
     ensures { result ≡ decimal_from max 0 s.now }
 {
