@@ -1,16 +1,15 @@
--- Copies of bytes from list to list, one at a turn, and what stands where after them.
+-- Copies of bytes from list to list, and what stands where after them.
 -- Assumes nothing.
 use mathlib.Core.Path.{◌≡◌, refl, sym, ap, ap₂, ◌∙◌}
 use mathlib.Core.Logic.{⊎_elim, ◌⊎◌, inl, inr}
 use mathlib.Core.Bool.{Bool, true, false, ◌&&◌}
 use mathlib.Core.List.{List, [], ◌∷◌, ◌++◌}
 use Prim.Native.Nat.{ℕ, ◌+◌, ◌*◌, ◌-◌, ◌≤◌, ◌<◌, min}
-use native.Mathlib.Numerals.{add-one}
 use native.Mathlib.Omega.{arith}
 use lib.Arith.{lt_of_le-ne}
 use lib.Dec.{eqb, ltb}
-use lib.ListN.{length, get_or, set, take, drop, replicate, length-drop, length-take, drop_of_length-le, get_or-append}
-use lib.Seq.{paste, paste-suc, get_or-drop, get_or-take, length_paste_head, length-paste, length-take-le, take-take, drop-paste, get_or-append-add, ext_get_or}
+use lib.ListN.{length, get_or, take, drop, replicate, length-drop, length-take, drop_of_length-le, get_or-append}
+use lib.Seq.{paste, get_or-drop, get_or-take, length_paste_head, length-paste, length-take-le, take-take, drop-paste, get_or-append-add, ext_get_or}
 use borrow.Author.Tests.{ltb-true, ltb-false, lt-ltb, le-ltb}
 use Rattle.rules.proofs.Facts.{either}
 use Rattle.block.specs.Block.{all_zero, no_block, block_at, bytes_at, with_block, filled_front}
@@ -18,12 +17,6 @@ use Rattle.std.specs.List.{fold}
 use Rattle.std.proofs.Math.Bool.{and-true, and_assoc}
 use Rattle.std.proofs.lemmas.List.{drop_min, take_min, drop-replicate}
 use Rattle.block.proofs.Padding.{all-zero}
-
--- a turn that copies element j of s to place at + j
-pub paste_more : (d : List ℕ) (at : ℕ) (s : List ℕ) (j : ℕ) {o : List ℕ} → o ≡ paste d at s j → at + j < length d → j < length s
-    → set o (at + j) (get_or s j 0) ≡ paste d at s (j + 1)
-paste_more d at s j e hd hs =
-    ap (λ (l : List ℕ). set l (at + j) (get_or s j 0)) e ∙ paste-suc d at s j 0 hd hs ∙ ap (paste d at s) (sym (add-one j))
 
 -- the fold over the bytes
 pub fold_zero : (b : Bool) (l : List ℕ) → fold (λ (all : Bool) (x : ℕ). all && eqb x 0) b l ≡ b && all_zero l

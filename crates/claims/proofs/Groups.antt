@@ -24,6 +24,7 @@ use Rattle.label.specs.declared.Label.{Label}
 use Rattle.label.specs.Tags.{tag_of, sum_of, union_of, common_in, common_of, keeps_to, empty}
 use Rattle.label.specs.Words.{words}
 use Rattle.label.proofs.Laws.{sum_ext, union-tag}
+use Rattle.label.proofs.Order.{no_tag}
 use Rattle.label.proofs.Words.{words_order}
 use Rattle.entity.specs.declared.Entity.{Entity}
 use Rattle.entity.specs.Entity.{slot_of}
@@ -33,7 +34,7 @@ use Rattle.monitor.specs.Table.{formed, groups_of, with_slot, hub}
 use Rattle.monitor.proofs.Form.{hub_laws}
 use Rattle.claims.specs.InForm.{stands_in}
 use Rattle.claims.specs.Groups.{tag_had, tags_had, GroupsKept, AcceptedSpelt, NoGroupBroken, GroupsFixed, NoGroupMoved}
-use Rattle.claims.proofs.InForm.{zero-tag, form_spelt}
+use Rattle.claims.proofs.InForm.{form_spelt}
 
 -- ---- one group
 
@@ -80,7 +81,7 @@ sum_none (suc k) = omega (arith, sum_none k)
 none_had : (e : Entity) → tags_had empty e ≤ 1
 unfolding empty
 none_had e =
-    let z : tags_had empty e ≡ 0 = sum_ext 64 _ _ (λ n h. ap (min (tag_had e n)) (zero-tag n) ∙ least (tag_had e n)) ∙ sum_none 64 in
+    let z : tags_had empty e ≡ 0 = sum_ext 64 _ _ (λ n h. ap (min (tag_had e n)) (no_tag n) ∙ least (tag_had e n)) ∙ sum_none 64 in
     omega arith
   where
     least : (x : ℕ) → min x 0 ≡ 0

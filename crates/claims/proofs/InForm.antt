@@ -8,17 +8,17 @@ use native.Mathlib.Omega.{arith}
 use lib.Dec.{leb, eqb}
 use lib.ListN.{length, get_or, drop, length-drop}
 use lib.Seq.{get_or-drop}
-use borrow.Author.Tests.{leb-true, le-leb, eqb-true, eqb-false, eq-eqb}
+use borrow.Author.Tests.{leb-true, le-leb, eqb-true, eq-eqb}
 use Rattle.rules.specs.declared.Kind.{Kind}
 use Rattle.rules.specs.declared.Kind.TheVariants.{Free, Item, Program}
 use Rattle.rules.specs.Table.{is_free, is_item, Slot, rightless, vacant, kind_formed, parts_formed, at}
 use Rattle.rules.proofs.Facts.{and_left, and_right, both, or-rest}
 use Rattle.rules.proofs.Bounded.{all_of}
 use Rattle.label.specs.declared.Label.{Label}
-use Rattle.label.specs.Tags.{tag_of, empty, has_tag, equal_of}
+use Rattle.label.specs.Tags.{empty, has_tag, equal_of}
 use Rattle.label.specs.Words.{words}
-use Rattle.label.proofs.Laws.{tag-lt, equal-tag, equal_of_tags}
-use Rattle.label.proofs.Order.{empty-not}
+use Rattle.label.proofs.Laws.{equal-tag, equal_of_tags}
+use Rattle.label.proofs.Order.{no_tag as zero-tag}
 use Rattle.entity.specs.declared.Entity.{Entity}
 use Rattle.entity.specs.Entity.{rights_of, bare, slot_of, entity_as}
 use Rattle.block.specs.Block.{all_zero, padded, block_at}
@@ -31,14 +31,6 @@ use Rattle.claims.specs.InForm.{stands_in, NoTag, NoRight, Vacant, SlotInForm, I
 use Rattle.claims.specs.Effects.{SlotsSpelt}
 
 -- ---- sets without a tag
-
-pub zero-tag : (n : ℕ) → tag_of 0 n ≡ 0
-zero-tag n = let k = eqb-false _ _ (empty-not n) in let l = tag-lt 0 n in go (tag_of 0 n) k l
-  where
-    go : (x : ℕ) → (x ≡ 1 → ⊥) → x < 2 → x ≡ 0
-    go zero k l = refl
-    go (suc zero) k l = absurd (k refl)
-    go (suc (suc x)) k l = omega arith
 
 no_tag : (l : Label) → words.same l empty ≡ true → NoTag l
 unfolding equal_of empty

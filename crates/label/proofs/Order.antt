@@ -19,7 +19,7 @@ on x e = eqb-true x 1 e
 off : (x : ℕ) → x < 2 → eqb x 1 ≡ false → x ≡ 0
 off x l e = let z = eqb-false x 1 e in omega arith
 
-no_tag : (n : ℕ) → tag_of 0 n ≡ 0
+pub no_tag : (n : ℕ) → tag_of 0 n ≡ 0
 unfolding tag_of
 no_tag n = ap (λ (x : ℕ). x % 2) (zero-div (2 ^ n))
 

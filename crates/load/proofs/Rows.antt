@@ -6,7 +6,7 @@ use mathlib.Core.List.{List, [], ◌∷◌, ◌++◌, append_assoc}
 use Rattle.std.specs.Prelude.{Option, None, Some}
 use Prim.Native.Nat.{ℕ, suc, ◌+◌, ◌-◌, ◌≤◌, ◌<◌}
 use native.Mathlib.Omega.{arith}
-use lib.ListN.{length, set, replicate, length-append, length-replicate}
+use lib.ListN.{length, set, replicate, length-append}
 use lib.Seq.{set-append_seam}
 use borrow.Author.Tests.{lt-ltb, le-ltb}
 use Rattle.rules.specs.Table.{is_free}
@@ -68,10 +68,6 @@ empty-none = refl
 pub empty-count : (gs : List Label) → (empty_with gs).count ≡ length gs
 unfolding empty_with
 empty-count gs = refl
-
-pub empty_places : (gs : List Label) → length gs ≤ 8 → length (empty_with gs).groups ≡ 8
-unfolding empty_with
-empty_places gs h = simp (length-append, length-replicate) (omega arith)
 
 pub empty-more : (t : Table) (gs : List Label) (g : Label) → t ≡ empty_with gs → length gs < 8
     → record { entities = t.entities; content = t.content; groups = set t.groups t.count g; count = t.count + 1 } ≡ empty_with (gs ++ (g ∷ []))

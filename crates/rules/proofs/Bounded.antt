@@ -3,9 +3,8 @@
 use mathlib.Core.Path.{◌≡◌, refl, ap, ap₂, ◌∙◌}
 use mathlib.Core.Logic.{⊎_elim}
 use mathlib.Core.Bool.{Bool, true, ◌&&◌}
-use Prim.Native.Nat.{ℕ, zero, suc, ◌+◌, ◌<◌}
+use Prim.Native.Nat.{ℕ, zero, suc, ◌<◌}
 use native.Mathlib.Nat.{le-suc, le_refl, lt_of_lt_of_le, eq-or-lt_of_le, le_of_suc-le-suc, not-suc-le-zero}
-use native.Mathlib.Numerals.{add-one}
 use Rattle.rules.specs.Bounded.{all_below}
 use Rattle.rules.proofs.Facts.{and_left, and_right}
 
@@ -19,12 +18,3 @@ pub all_of : (k : ℕ) (f : ℕ → Bool) → ((n : ℕ) → n < k → f n ≡ t
 unfolding all_below
 all_of zero f h = refl
 all_of (suc k) f h = ap₂ ◌&&◌ (h k (le_refl (suc k))) (all_of k f (λ n l. h n (lt_of_lt_of_le l (le-suc k))))
-
--- for a loop that tests each number in turn: at its start, and after one more
-pub all_none : (f : ℕ → Bool) → all_below 0 f ≡ true
-unfolding all_below
-all_none f = refl
-
-pub all_more : (k : ℕ) (f : ℕ → Bool) → all_below k f ≡ true → f k ≡ true → all_below (k + 1) f ≡ true
-unfolding all_below
-all_more k f h e = ap (λ (n : ℕ). all_below n f) (add-one k) ∙ ap₂ ◌&&◌ e h
