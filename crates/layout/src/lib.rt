@@ -76,7 +76,8 @@ impl From<Entity> for HubSlot {
     }
 }
 
-// What a function gives of each element of an array goes to another, in place.
+// What a function gives of each element of an array goes to another, in place. By index: no clause says what `zip` over
+// `iter_mut` leaves in the array (tried).
 fn fill<A: Copy, B: Copy, F: Fn(A) -> B, const N: usize>(xs: &[A; N], f: F, out: &mut [B; N])
     requires { F.IsAlwaysCallable f }
     ensures { AllZip (λ x y. F.post f x y) xs.now out.new }
