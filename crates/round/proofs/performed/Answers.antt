@@ -4,10 +4,8 @@ use Prim.Native.Nat.{ℕ}
 use native.Mathlib.Omega.{arith}
 use lib.ListN.{length, take, length-take}
 use Rattle.std.proofs.lemmas.List.{take_all}
-use Rattle.label.specs.Calls.{call_with}
 use Rattle.callrows.specs.Calls.{show_buffer}
 use Rattle.monitor.specs.declared.Table.{Table}
-use Rattle.monitor.specs.Calls.{reply, buffer_after}
 use Rattle.round.proofs.Calls.{played_from, performed_is}
 use Rattle.round.proofs.performed.Goals as goal
 
