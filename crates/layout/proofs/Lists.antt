@@ -1,17 +1,12 @@
 -- An array made of another, element by element.
 -- Assumes nothing.
-use Prim.Native.Nat.{ℕ, suc, ◌+◌, ◌<◌, ◌≤◌}
+use Prim.Native.Nat.{ℕ, suc, ◌<◌, ◌≤◌}
 use native.Mathlib.Omega.{arith}
-use mathlib.Core.Path.{◌≡◌, refl, sym, ap₂, subst, ◌∙◌}
-use mathlib.Core.Bool.{true, false}
+use mathlib.Core.Path.{◌≡◌, refl, sym, ap₂, ◌∙◌}
 use mathlib.Core.List.{List, [], ◌∷◌, map}
-use lib.Dec.{eqb}
 use lib.ListN.{length}
-use borrow.Author.Tests.{eqb-true, eqb-false}
-use Rattle.std.specs.Prelude.{slice_index_or, slice_set}
+use Rattle.std.specs.Prelude.{slice_index_or}
 use Rattle.std.specs.List.{AllZip}
-use Rattle.std.proofs.lemmas.List.{get_or_read, get_or-set_other}
-use Rattle.std.proofs.lemmas.Grind.{get_or-set_at}
 
 zip_at : {A B : Type 0} (R : A → B → Type 0) (xs : List A) (ys : List B) → length ys ≡ length xs
     → ((i : ℕ) (d : A) (e : B) → i < length xs → R (slice_index_or xs i d) (slice_index_or ys i e)) → AllZip R xs ys
@@ -23,16 +18,6 @@ zip_at R (x ∷ xs) (y ∷ ys) l at = (at 0 x y (omega arith), zip_at R xs ys (o
 -- the elements below i are filled
 abbrev pub Filled : {A B : Type 0} → (A → B → Type 0) → List A → List B → ℕ → Type 0
 Filled {A} {B} R xs ys i = (k : ℕ) (d : A) (e : B) → k < i → R (slice_index_or xs k d) (slice_index_or ys k e)
-
-pub filled_more : {A B : Type 0} (R : A → B → Type 0) (xs : List A) (ys : List B) (i : ℕ) (x : A) (y : B) → i < length xs → i < length ys
-    → x ≡ slice_index_or xs i x → R (slice_index_or xs i x) y → Filled R xs ys i → Filled R xs (slice_set ys i y) (i + 1)
-filled_more R xs ys i x y a b is r f k d e m =
-    elim (eqb k i) as (λ v. eqb k i ≡ v → R (slice_index_or xs k d) (slice_index_or (slice_set ys i y) k e)) [
-      | true ↦ λ t.
-          let w : k ≡ i = eqb-true k i t in
-          rw (get_or-set_at ys i k y e w b, w) (subst (λ (v : _). R v y) (sym is ∙ get_or_read xs i x a is d) r)
-      | false ↦ λ t. rw (get_or-set_other ys i k y e (eqb-false k i t)) (f k d e (omega (arith, m, eqb-false k i t)))
-    ] refl
 
 pub filled_all : {A B : Type 0} (R : A → B → Type 0) (xs : List A) (ys : List B) (n i : ℕ) → length xs ≡ n → length ys ≡ n → n ≤ i
     → Filled R xs ys i → AllZip R xs ys
