@@ -1,16 +1,25 @@
-// What hubcalls and hubaudit do alike: they look for arguments, read a text from standard input, and say so where it cannot be
-// read or is refused.
+// What hubcalls and hubaudit do alike: they read a text from standard input, and say so where it cannot be read or is refused.
 #![tactic(auto)]
 
 ghost use Rattle.std.specs.Prelude.{◌≡◌, IfSome};
 ghost use Rattle.load.specs.Load.{load_of};
 
 use monitor::Table;
-use std::env::{Env, FillError};
+use std::io;
 
-// Whether the program was started with an argument at a place; its name stands at 0. Which there are is no fact of the logic.
-pub fn has_argument(rt: &HostRuntime, at: usize) -> bool {
-    !matches!(rt.arg(at, &mut [0u8; 1]), Err(FillError::NotPresent))
+// What a program writes to standard output: lines for people, or records as they are, for another program.
+#[derive(Clone, Copy)]
+pub enum Form {
+    Lines,
+    Raw,
+}
+
+// Writes the line of a refusal. Where records are expected it is told, too, since nobody reads them.
+pub fn refuse(rt: &HostRuntime, line: &[u8], form: Form) -> io::Result<()> {
+    if let Form::Raw = form {
+        stdio::tell(rt, line);
+    }
+    stdio::write(rt, line)
 }
 
 // A text that is not refused, and the table that it loads into.
@@ -22,19 +31,19 @@ pub struct Accepted<'a> {
 
 // Reads a text into a buffer, as much of it as the buffer takes. None where there is no text to go on with, which is then said:
 // that a read fails is no fact of the logic, so no clause says when.
-pub fn read_text<'a>(rt: &HostRuntime, buf: &'a mut [u8]) -> Option<Accepted<'a>>
+pub fn read_text<'a>(rt: &HostRuntime, buf: &'a mut [u8], form: Form) -> Option<Accepted<'a>>
     ensures verdict { IfSome result (λ r. (load_of r.text.now).verdict ≡ Ok tt) }
     ensures table { IfSome result (λ r. r.table ≡ (load_of r.text.now).table) }
 {
     let Ok(n) = stdio::fill(&mut rt.stdin(), buf) else {
-        stdio::tell(rt, b"standard input cannot be read\n");
+        stdio::tell_unread(rt);
         return None;
     };
     let text = handing::front(buf, n);
     let loaded = load::load(text);
     if let Err(fault) = loaded.verdict {
         let line = print::refused_line(fault.refusal.number(), fault.line);
-        let _said = stdio::write(rt, &line);
+        let _said = refuse(rt, &line, form);
         return None;
     }
     Some(Accepted {

@@ -15,43 +15,45 @@ take-parts (suc n) (x ∷ a) b =
     let e : suc n - suc (length a) ≡ n - length a = omega arith in
     rw e (ap (λ (l : List ℕ). x ∷ l) (take-parts n a b))
 
-pub with_nothing : (x : List ℕ) → line_with x [] ≡ x
-with_nothing x = go (line_size - length x)
-  where
-    go : (n : ℕ) → x ++ take n [] ≡ x
-    go zero = append-nil x
-    go (suc n) = append-nil x
+module _ (n : ℕ) where
+  pub with_nothing : (x : List ℕ) → line_with n x [] ≡ x
+  with_nothing x = go (n - length x)
+    where
+      go : (k : ℕ) → x ++ take k [] ≡ x
+      go zero = append-nil x
+      go (suc k) = append-nil x
 
-pub with_both : (x a b : List ℕ) → line_with (line_with x a) b ≡ line_with x (a ++ b)
-with_both x a b =
-    let m = line_size - length x in
-    let e : line_size - length (x ++ take m a) ≡ m - length a = simp (length-append, length-take) (omega arith) in
-    rw e (append_assoc x (take m a) (take (m - length a) b) ∙ ap (λ (l : List ℕ). x ++ l) (sym (take-parts m a b)))
+  pub with_both : (x a b : List ℕ) → line_with n (line_with n x a) b ≡ line_with n x (a ++ b)
+  with_both x a b =
+      let m = n - length x in
+      let e : n - length (x ++ take m a) ≡ m - length a = simp (length-append, length-take) (omega arith) in
+      rw e (append_assoc x (take m a) (take (m - length a) b) ∙ ap (λ (l : List ℕ). x ++ l) (sym (take-parts m a b)))
 
--- a line that begins as l does, so much of l as it has room for
-pub more : (l b : List ℕ) {x y : List ℕ} → x ≡ line_with [] l → y ≡ line_with x b → y ≡ line_with [] (l ++ b)
-more l b e h = h ∙ ap (λ (z : List ℕ). line_with z b) e ∙ with_both [] l b
+  -- a line that begins as l does, so much of l as it has room for
+  pub more : (l b : List ℕ) {x y : List ℕ} → x ≡ line_with n [] l → y ≡ line_with n x b → y ≡ line_with n [] (l ++ b)
+  more l b e h = h ∙ ap (λ (z : List ℕ). line_with n z b) e ∙ with_both [] l b
 
--- a line has room for all of it
-pub fits : (l : List ℕ) → length l ≤ line_size → l ≡ line_with [] l
-fits l h = sym (take_all line_size l h)
+  -- a line has room for all of it
+  pub fits : (l : List ℕ) → length l ≤ n → l ≡ line_with n [] l
+  fits l h = let e : n - 0 ≡ n = omega arith in rw e (sym (take_all n l h))
 
-pub whole : (l : List ℕ) {x : List ℕ} → x ≡ line_with [] l → length l ≤ line_size → x ≡ l
-whole l e h = e ∙ sym (fits l h)
+  pub whole : (l : List ℕ) {x : List ℕ} → x ≡ line_with n [] l → length l ≤ n → x ≡ l
+  whole l e h = e ∙ sym (fits l h)
 
 -- ---- hexadecimal
 
-pub hex_more : (x s : List ℕ) (i : ℕ) → i < length s
-    → line_with (line_with x (digit_text (get_or s i 0 / 16) ∷ digit_text (get_or s i 0 % 16) ∷ [])) (hex_text (drop (i + 1) s)) ≡ line_with x (hex_text (drop i s))
-unfolding hex_text
-hex_more x s i h =
-    let d = digit_text (get_or s i 0 / 16) ∷ digit_text (get_or s i 0 % 16) ∷ [] in
-    let e : hex_text (drop i s) ≡ d ++ hex_text (drop (i + 1) s) = at_drop_more hex_text s i 0 h in
-    with_both x d (hex_text (drop (i + 1) s)) ∙ ap (line_with x) (sym e)
+module _ (n : ℕ) (x s : List ℕ) (i : ℕ) where
+  pub hex_more : i < length s
+      → line_with n (line_with n x (digit_text (get_or s i 0 / 16) ∷ digit_text (get_or s i 0 % 16) ∷ [])) (hex_text (drop (i + 1) s)) ≡ line_with n x (hex_text (drop i s))
+  unfolding hex_text
+  hex_more h =
+      let d = digit_text (get_or s i 0 / 16) ∷ digit_text (get_or s i 0 % 16) ∷ [] in
+      let e : hex_text (drop i s) ≡ d ++ hex_text (drop (i + 1) s) = at_drop_more hex_text s i 0 h in
+      with_both n x d (hex_text (drop (i + 1) s)) ∙ ap (line_with n x) (sym e)
 
-pub hex_all : (x s : List ℕ) (i : ℕ) → length s ≤ i → x ≡ line_with x (hex_text (drop i s))
-unfolding hex_text
-hex_all x s i h = let e : hex_text (drop i s) ≡ [] = at_drop_all hex_text s i h in sym (ap (line_with x) e ∙ with_nothing x)
+  pub hex_all : length s ≤ i → x ≡ line_with n x (hex_text (drop i s))
+  unfolding hex_text
+  hex_all h = let e : hex_text (drop i s) ≡ [] = at_drop_all hex_text s i h in sym (ap (line_with n x) e ∙ with_nothing n x)
 
 pub length-hex : (s : List ℕ) → length (hex_text s) ≡ length s * 2
 unfolding hex_text

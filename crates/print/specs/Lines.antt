@@ -55,9 +55,9 @@ refused_audit n = refused_text ++ (decimal_text n ++ (10 ∷ []))
 abbrev pub line_size : ℕ
 line_size = 162
 
--- a line with bytes behind it, as many as it has room for
-abbrev pub line_with : List ℕ → List ℕ → List ℕ
-line_with x l = x ++ take (line_size - length x) l
+-- a line in a room of n bytes, with bytes behind it, as many as have room
+abbrev pub line_with : ℕ → List ℕ → List ℕ → List ℕ
+line_with n x l = x ++ take (n - length x) l
 
 -- The line of a call that shows at most 64 bytes is whole
 abbrev pub CallLinesWhole : Type 0

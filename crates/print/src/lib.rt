@@ -11,11 +11,11 @@ use arrayvec::ArrayVec;
 // A line. The longest is that of a record and 64 bytes shown.
 pub type Line = ArrayVec<u8, 162>;
 
-// Each push puts something behind a line, as much of it as has room. By a reference: a line that goes in and comes back by value
-// is copied at each byte.
+// Each push puts something behind a line of any room, as much of it as has room. By a reference: a line that goes in and comes back
+// by value is copied at each byte.
 
-fn push_bytes(line: &mut Line, src: &[u8])
-    ensures { line.new.items ≡ line_with line.old.items src.now }
+pub fn push_bytes<const N: usize>(line: &mut ArrayVec<u8, N>, src: &[u8])
+    ensures { line.new.items ≡ line_with N line.old.items src.now }
 {
     let room = line.remaining_capacity();
     line.try_extend_from_slice(handing::front(src, room))
@@ -35,7 +35,7 @@ fn digit_text(n: u8) -> u8
 
 // Neither this nor a whole line is written by a Display: no clause of write! says when it succeeds, and a push always does.
 fn push_hex(line: &mut Line, src: &[u8])
-    ensures { line.new.items ≡ line_with line.old.items (hex_text src.now) }
+    ensures { line.new.items ≡ line_with line_size line.old.items (hex_text src.now) }
 {
     for b in src {
         push_bytes(line, &[digit_text(*b / 16), digit_text(*b % 16)]);
@@ -43,7 +43,7 @@ fn push_hex(line: &mut Line, src: &[u8])
 }
 
 fn push_data(line: &mut Line, src: &[u8])
-    ensures { line.new.items ≡ line_with line.old.items (data_text src.now) }
+    ensures { line.new.items ≡ line_with line_size line.old.items (data_text src.now) }
 {
     if src.is_empty() {
         push_bytes(line, b"-");
@@ -52,8 +52,8 @@ fn push_data(line: &mut Line, src: &[u8])
     }
 }
 
-fn push_decimal(line: &mut Line, n: u64)
-    ensures { line.new.items ≡ line_with line.old.items (decimal_text n) }
+pub fn push_decimal<const N: usize>(line: &mut ArrayVec<u8, N>, n: u64)
+    ensures { line.new.items ≡ line_with N line.old.items (decimal_text n) }
 {
     let mut digits = itoa::Buffer::new();
     push_bytes(line, digits.format(n).as_bytes());

@@ -1,18 +1,25 @@
-// Standard input and output, nothing lost without a word.
+// Standard input and output, nothing lost without a word; and whether there is an argument.
 //
 // What standard input gives and standard output takes is no fact of the logic. A read that fails because a signal interrupts
 // it counts as failed: the programs catch no signal, so none does.
 #![tactic(auto)]
 
-ghost use Rattle.std.specs.Prelude.{◌<◌, ◌≤◌, length, IfOk};
-ghost use Rattle.std.specs.Io.KnownBytes.{IsAtEnd};
+ghost use Rattle.std.specs.Prelude.{◌<◌, ◌≤◌, length, take, IfOk};
+ghost use Rattle.std.specs.Io.KnownBytes.{Consumes, IsAtEnd};
 
+use std::env::{Env, FillError};
 use std::io;
 use std::io::Read;
+
+// Whether the program was started with an argument at a place; its name stands at 0. Which there are is no fact of the logic.
+pub fn has_argument(rt: &HostRuntime, at: usize) -> bool {
+    !matches!(rt.arg(at, &mut [0u8; 1]), Err(FillError::NotPresent))
+}
 
 // Reads an input into a buffer until that is full, the input ends or a read fails. Answers how many of the buffer's bytes it
 // filled: all of them where the buffer is full, and more may come; fewer only where the input has ended.
 pub fn fill<R: Read>(input: &mut R, buf: &mut [u8]) -> io::Result<usize>
+    ensures bytes { IfOk result (λ n. Consumes (R.remaining input.old) (R.remaining input.new) (take n buf.new)) }
     ensures within { IfOk result (λ n. n ≤ length buf.new) }
     ensures whole { IfOk result (λ n. n < length buf.new → IsAtEnd (R.remaining input.new)) }
 {
@@ -31,6 +38,11 @@ pub fn fill<R: Read>(input: &mut R, buf: &mut [u8]) -> io::Result<usize>
 // A line on standard error.
 pub fn tell(rt: &HostRuntime, line: &[u8]) {
     let _ = rt.stderr().write_all(line);
+}
+
+// That a read failed.
+pub fn tell_unread(rt: &HostRuntime) {
+    tell(rt, b"standard input cannot be read\n");
 }
 
 // Writes all of some bytes to standard output. Where that fails, a front part may have been written, and a line on standard

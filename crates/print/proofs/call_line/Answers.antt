@@ -1,5 +1,5 @@
 use Rattle.std.proofs.Common.{◌≡◌, ap, ◌∙◌, ◌++◌, ◌∷◌, [], append_assoc}
-use Rattle.print.specs.Lines.{hex_text, data_text, call_line, line_with}
+use Rattle.print.specs.Lines.{hex_text, data_text, call_line, line_with, line_size}
 use Rattle.print.proofs.Laws.{more}
 use Rattle.print.proofs.call_line.Goals as goal
 
@@ -7,8 +7,8 @@ pub returns : goal.returns
 unfolding call_line
 returns c =
     let h = hex_text c.args.entry in let d = data_text c.args.shown.now in
-    let hex = more [] h c.new-line.ensures c.push_hex.ensures in
-    let space = more h (32 ∷ []) hex c.push_bytes.ensures in
-    let shown = more (h ++ (32 ∷ [])) d space c.push_data.ensures in
+    let hex = more line_size [] h c.new-line.ensures c.push_hex.ensures in
+    let space = more line_size h (32 ∷ []) hex c.push_bytes.ensures in
+    let shown = more line_size (h ++ (32 ∷ [])) d space c.push_data.ensures in
     let joined : h ++ (32 ∷ []) ++ d ++ (10 ∷ []) ≡ call_line c.args.entry c.args.shown.now = simp append_assoc in
-    more (h ++ (32 ∷ []) ++ d) (10 ∷ []) shown c.push_bytes-2.ensures ∙ ap (line_with []) joined
+    more line_size (h ++ (32 ∷ []) ++ d) (10 ∷ []) shown c.push_bytes-2.ensures ∙ ap (line_with line_size []) joined

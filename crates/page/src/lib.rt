@@ -1,0 +1,116 @@
+// What hubtally prints: the page of a tally, a line of names and a line for each row; and of an input, tallied.
+#![tactic(auto)]
+
+ghost use Rattle.std.specs.Prelude.{◌≡◌, ◌*◌, ◌≤◌, length, IfOk, IfSome};
+ghost use Rattle.std.specs.List.{flat_map};
+ghost use Rattle.print.specs.Lines.{line_with};
+ghost use Rattle.tally.specs.Tally.{tally_of};
+ghost use Rattle.page.specs.Page.{caller_text, cell, row_line, row_size, page_size, page_of, printed, output_of};
+
+use arrayvec::ArrayVec;
+use rules::Refusal;
+use std::io;
+use std::io::{ErrorKind, Read};
+use tally::{Row, Tally};
+
+// A page: the names take 80 bytes, and a row at most 425, a word of 4, a space and 20 digits for each of 20 numbers, and byte 10.
+pub type Page = ArrayVec<u8, 14105>;
+
+// A number behind a space.
+fn push_cell(page: &mut Page, n: u64)
+    ensures short { length (cell n) ≤ 21 }
+    ensures text { page.new.items ≡ line_with page_size page.old.items (cell n) }
+{
+    print::push_bytes(page, b" ");
+    print::push_decimal(page, n);
+}
+
+// Numbers, each behind a space.
+fn push_cells(page: &mut Page, numbers: &[u64])
+    ensures short { length (flat_map cell numbers.now) ≤ length numbers.now * 21 }
+    ensures text { page.new.items ≡ line_with page_size page.old.items (flat_map cell numbers.now) }
+{
+    for n in numbers {
+        push_cell(page, *n);
+    }
+}
+
+// What stands for a row: a caller's slot, or all higher numbers.
+fn push_caller(page: &mut Page, caller: usize)
+    ensures short { length (caller_text caller) ≤ 4 }
+    ensures text { page.new.items ≡ line_with page_size page.old.items (caller_text caller) }
+{
+    if caller < 32 {
+        print::push_decimal(page, caller as u64);
+    } else {
+        print::push_bytes(page, b"more");
+    }
+}
+
+// The line of a row.
+fn push_row(page: &mut Page, caller: usize, row: &Row)
+    ensures short { length (row_line caller row.now) ≤ row_size }
+    ensures text { page.new.items ≡ line_with page_size page.old.items (row_line caller row.now) }
+{
+    push_caller(page, caller);
+    push_cells(page, &row.counts);
+    push_cell(page, row.bytes);
+    print::push_bytes(page, b"\n");
+}
+
+// The page of a tally.
+pub fn page_of(tally: &Tally) -> Page
+    ensures { result.items ≡ page_of tally.now }
+{
+    let rows: &[Row] = &tally.rows;
+    let mut page = Page::new();
+    print::push_bytes(
+        &mut page,
+        b"caller n0 n1 n2 n3 n4 n5 n6 n7 n8 n9 n10 n11 n12 n13 n14 n15 n16 n17 more bytes\n",
+    );
+    for (caller, row) in rows.iter().enumerate() {
+        push_row(&mut page, caller, row);
+    }
+    page
+}
+
+// What is printed of a tally, or of a refusal.
+fn printed(tallied: &Result<Tally, Refusal>) -> Page
+    ensures { result.items ≡ printed tallied.now }
+{
+    match tallied {
+        Ok(tally) => page_of(tally),
+        Err(refusal) => {
+            let mut page = Page::new();
+            print::push_bytes(&mut page, &print::refused_audit(refusal.number()));
+            page
+        }
+    }
+}
+
+// The tally of all that an input gives, a buffer at a time. A full one holds whole records, so none stands in two.
+fn tally_input<R: Read>(input: &mut R) -> io::Result<Result<Tally, Refusal>>
+    ensures { IfOk result (λ tallied. IfSome (R.remaining input.old) (λ list. tallied ≡ tally_of list)) }
+{
+    let mut buf = [0u8; 65536];
+    let mut tally = Tally::new();
+    for _ in 0..u64::MAX {
+        let n = stdio::fill(input, &mut buf)?;
+        let tallied = tally.with_records(handing::front(&buf, n));
+        if n < buf.len() {
+            return Ok(tallied);
+        }
+        let Ok(more) = tallied else {
+            return Ok(tallied);
+        };
+        tally = more;
+    }
+    Err(io::Error::from(ErrorKind::FileTooLarge))
+}
+
+// What hubtally prints for an input: the page of the records that it gives, or the refusal by 12.
+pub fn output<R: Read>(input: &mut R) -> io::Result<Page>
+    ensures { IfOk result (λ page. IfSome (R.remaining input.old) (λ list. page.items ≡ output_of list)) }
+{
+    Ok(printed(&tally_input(input)?))
+}
