@@ -1,2 +1,4 @@
 mod Pages
 mod Input
+pub mod Worked
+pub mod Refusals

@@ -4,10 +4,9 @@ use Rattle.std.proofs.Common.{◌≡◌, refl, sym, ap, ◌∙◌, ℕ, ◌+◌,
 use Rattle.std.specs.List.{flat_map}
 use Rattle.std.proofs.lemmas.List.{at_drop_more, at_drop_all, append-nil, append_assoc, take_all, length-append}
 use Rattle.std.proofs.lemmas.Bool.{cond_both, ltb-true}
-use Rattle.std.proofs.lemmas.Fmt.{length-decimal-le}
 use Rattle.text.specs.Ascii.{ascii}
 use Rattle.print.specs.Lines.{decimal_text, line_with}
-use Rattle.print.proofs.Laws.{with_nothing, with_both, decimal_is, decimal_most}
+use Rattle.print.proofs.Laws.{with_nothing, with_both, decimal_few, decimal_most}
 use Rattle.tally.specs.declared.Row.{Row}
 use Rattle.tally.specs.declared.Tally.{Tally}
 use Rattle.page.specs.Page.{names_line, cell, caller_text, row_line, row_lines, page_of, row_size, page_size}
@@ -28,10 +27,10 @@ cells_short [] h = omega arith
 cells_short (n ∷ ns) h = omega (arith, length-append (cell n) (flat_map cell ns), cell_short n (h 0), cells_short ns (λ k. h (suc k)))
 
 pub caller_short : (i : ℕ) → length (caller_text i) ≤ 4
-caller_short i = cond_both (ltb i 32) (decimal_text i) (ascii "more") (λ l. length l ≤ 4) (λ e. few (ltb-true i 32 e)) (λ e. omega arith)
-  where
-    few : i < 32 → length (decimal_text i) ≤ 4
-    few l = rw (sym (decimal_is i (omega arith))) (omega (arith, length-decimal-le 2 i (omega arith) (omega arith) (omega arith)))
+caller_short i =
+    cond_both (ltb i 32) (decimal_text i) (ascii "more") (λ l. length l ≤ 4)
+    (λ e. let l = ltb-true i 32 e in omega (arith, decimal_few 2 i (omega arith) (omega arith) (omega arith)))
+    (λ e. omega arith)
 
 pub row_of_parts : (i : ℕ) (w : Row) (x : List ℕ) {a b c d : List ℕ}
     → a ≡ line_with page_size x (caller_text i) → b ≡ line_with page_size a (flat_map cell w.counts) → c ≡ line_with page_size b (cell w.bytes) → d ≡ line_with page_size c (10 ∷ [])

@@ -2,7 +2,7 @@
 -- Assumes nothing.
 use Rattle.std.proofs.Common.{◌≡◌, ◌≢◌, refl, sym, ap, ◌∙◌, ℕ, zero, suc, ◌+◌, ◌*◌, ◌-◌, ◌/◌, ◌%◌, ◌^◌, ◌≤◌, ◌<◌, List, [], ◌∷◌, ◌++◌, length, take, drop, get_or, append_assoc, arith, length-append, length-take, lt-ltb, le-ltb}
 use Rattle.std.proofs.lemmas.List.{append-nil, take_all, at_drop_more, at_drop_all}
-use Rattle.std.proofs.lemmas.Fmt.{AppendsLastDigit, decimal_from_appends, length-decimal-le, length-decimal-le_succ}
+use Rattle.std.proofs.lemmas.Fmt.{AppendsLastDigit, decimal_from_appends, decimal_nonempty, length-decimal-le, length-decimal-le_succ}
 use Rattle.std.specs.Fmt.{decimal}
 use Rattle.print.specs.Lines.{digit_text, hex_text, data_text, call_line, digits_text, decimal_text, line_size, line_with, CallLinesWhole}
 
@@ -96,5 +96,12 @@ pub decimal_is : (n : ℕ) → n < 2 ^ 64 → decimal n ≡ decimal_text n
 unfolding decimal_text
 decimal_is n h = sym (decimal_from_appends digits_text appends (suc n) n h (omega (arith, length-decimal-le_succ n h)))
 
+-- how long they are: not empty, and k digits below 10 to the k
+pub decimal_some : (n : ℕ) → n < 2 ^ 64 → 0 < length (decimal_text n)
+decimal_some n h = rw (sym (decimal_is n h)) (decimal_nonempty n h)
+
+pub decimal_few : (k n : ℕ) → 0 < k → n < 10 ^ k → n < 2 ^ 64 → length (decimal_text n) ≤ k
+decimal_few k n p l h = rw (sym (decimal_is n h)) (length-decimal-le k n p l h)
+
 pub decimal_most : (n : ℕ) → n < 2 ^ 64 → length (decimal_text n) ≤ 20
-decimal_most n h = rw (sym (decimal_is n h)) (length-decimal-le 20 n (omega arith) (omega arith) h)
+decimal_most n h = decimal_few 20 n (omega arith) (omega arith) h

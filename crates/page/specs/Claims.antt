@@ -1,0 +1,46 @@
+-- Document 02, change 1: pages worked by hand, and what hubtally answers to a refusal in the place of records.
+-- Assumes nothing.
+use Rattle.std.specs.Prelude.{◌≡◌, ℕ, ◌<◌, List, [], ◌∷◌, ◌++◌, replicate}
+use Prim.Native.String.{String}
+use Rattle.text.specs.Ascii.{ascii}
+use Rattle.print.specs.Lines.{refused_line, refused_audit}
+use Rattle.page.specs.Page.{output_of}
+
+abbrev pub names : List ℕ
+names = ascii "caller n0 n1 n2 n3 n4 n5 n6 n7 n8 n9 n10 n11 n12 n13 n14 n15 n16 n17 more bytes\n"
+
+-- the row of a caller, by name, of whom there is no record; and such rows from caller 2 to caller 30
+abbrev pub quiet : String → List ℕ
+quiet caller = ascii caller ++ ascii " 0 0 0 0 0 0 0 0 0 0 0 0 0 0 0 0 0 0 0 0\n"
+
+abbrev pub quiet_2_to_30 : List ℕ
+quiet_2_to_30 =
+    quiet "2" ++ quiet "3" ++ quiet "4" ++ quiet "5" ++ quiet "6" ++ quiet "7" ++ quiet "8" ++ quiet "9" ++ quiet "10" ++ quiet "11"
+    ++ quiet "12" ++ quiet "13" ++ quiet "14" ++ quiet "15" ++ quiet "16" ++ quiet "17" ++ quiet "18" ++ quiet "19" ++ quiet "20"
+    ++ quiet "21" ++ quiet "22" ++ quiet "23" ++ quiet "24" ++ quiet "25" ++ quiet "26" ++ quiet "27" ++ quiet "28" ++ quiet "29"
+    ++ quiet "30"
+
+-- a record of a caller, with the number returned and the bytes moved
+abbrev pub entry : ℕ → ℕ → ℕ → List ℕ
+entry caller number moved = 4 ∷ caller ∷ 2 ∷ number ∷ moved ∷ 255 ∷ 255 ∷ 0 ∷ replicate 8 0
+
+-- Document 01's watering round has these callers, numbers and bytes moved; the others stand at the edges
+abbrev pub watering : List ℕ
+watering = entry 1 7 0 ++ entry 1 0 0 ++ entry 1 0 2 ++ entry 1 0 2 ++ entry 1 7 0 ++ entry 1 10 0
+
+abbrev pub edges : List ℕ
+edges = entry 0 0 64 ++ entry 0 0 255 ++ entry 31 17 1 ++ entry 31 18 0 ++ entry 32 99 0 ++ entry 255 255 9
+
+pub record PagesWorked : Type 0 where
+  pub none : output_of [] ≡ names ++ quiet "0" ++ quiet "1" ++ quiet_2_to_30 ++ quiet "31" ++ quiet "more"
+  pub round : output_of watering ≡ names ++ quiet "0" ++ ascii "1 3 0 0 0 0 0 0 2 0 0 1 0 0 0 0 0 0 0 0 4\n" ++ quiet_2_to_30 ++ quiet "31" ++ quiet "more"
+  pub edge : output_of edges ≡
+      names ++ ascii "0 2 0 0 0 0 0 0 0 0 0 0 0 0 0 0 0 0 0 0 319\n" ++ quiet "1" ++ quiet_2_to_30
+      ++ ascii "31 0 0 0 0 0 0 0 0 0 0 0 0 0 0 0 0 0 1 1 1\n" ++ ascii "more 0 0 0 0 0 0 0 0 0 0 0 0 0 0 0 0 0 0 2 9\n"
+  pub part : output_of (entry 0 0 64 ++ 4 ∷ []) ≡ ascii "refused 12\n"
+
+-- A refusal of hubaudit's, in the place of records, is refused by 12 and gives no page of zeros: its numbers are below 100, and a text
+-- of at most 65,535 bytes has fewer lines than 100,000
+pub record RefusalsRefused : Type 0 where
+  pub text : (number line : ℕ) → number < 100 → line < 100000 → output_of (refused_line number line) ≡ refused_audit 12
+  pub audit : (number : ℕ) → number < 100 → output_of (refused_audit number) ≡ refused_audit 12
