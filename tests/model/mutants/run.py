@@ -28,7 +28,7 @@ SECONDS = 20
 # Modules that make or check input and hold no rule; left out for a quicker build.
 LEFT_OUT = ("pub mod generate;", "pub mod tworuns;")
 # By the ending of a case: the program that it is for, and the ending of what is expected.
-CASES = {".txt": ("model", ".out"), ".script": ("script", ".sout"), ".records": ("tally", ".page")}
+CASES = {".records": ("tally", ".page"), ".script": ("script", ".sout"), ".txt": ("model", ".out")}
 
 
 def read_patch(path):
@@ -87,11 +87,12 @@ def fails(root, stem, kind):
 
 
 def read_cases(directory):
-    """Pairs if there are any, else the cases with those few first that alone show a wrong tally."""
+    """Pairs if there are any, else lists of records, scripts and texts in this order: the few that catch much come first."""
     names = sorted(os.path.join(folder, name) for folder, _, files in os.walk(directory) for name in files)
     paths = [os.path.splitext(name) for name in names]
     pairs = [path for path in paths if path[1] == ".watch"]
-    return pairs or sorted((path for path in paths if path[1] in CASES), key=lambda path: path[1] != ".records")
+    order = list(CASES)
+    return pairs or sorted((path for path in paths if path[1] in CASES), key=lambda path: order.index(path[1]))
 
 
 def differing(root, cases):

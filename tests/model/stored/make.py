@@ -22,7 +22,7 @@ PROGRAMS = sys.argv[1] if len(sys.argv) > 1 else BUILT
 TEXTS = [("rounds", 20, 120), ("damaged", 21, 401), ("mixed", 22, 19)]
 SCRIPTS = range(1, 49)
 SCENES = 4
-LISTS = 23
+LISTS_SEED = 23
 # Lengths of lists of records, about those of a record and of hubtally's buffer
 LENGTHS = [0, 1, 8, 15, 16, 17, 31, 32, 33, 4095, 4096, 4097, 65535, 65536, 65537, 65551, 65552, 131072, 131088, 200000]
 
@@ -47,7 +47,7 @@ def record(caller, number, moved, other=bytes(16)):
 
 def lists():
     """Lists of records by name."""
-    source = random.Random(LISTS)
+    source = random.Random(LISTS_SEED)
 
     def listed(fields):
         return b"".join(record(*three, source.randbytes(16)) for three in fields)
@@ -64,7 +64,7 @@ def lists():
     yield "each-number", listed((8, number, 255) for number in range(256))
     yield "ends", listed(itertools.product((0, 31, 32, 255), (0, 17, 18, 99, 255), (0, 1, 64, 255)))
     yield "moved-though-refused", listed((3, number, 255) for number in (*range(1, 19), 99, 255))
-    # only bytes that do not count differ
+    # the bytes that count stay, the others take every value together and some alone
     others = (bytes([byte]) * 16 for byte in range(256))
     alone = (bytes(k) + bytes([byte]) + bytes(15 - k) for k in range(16) for byte in (1, 31, 32, 255))
     yield "other-bytes", b"".join(record(9, 7, 64, other) for other in (*others, *alone))
