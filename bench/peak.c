@@ -1,7 +1,6 @@
-/* peak PROGRAM ARGUMENTS: runs a program and then says on standard error how many kilobytes of memory it held at most. What
- * starts a program counts too, so this must be small. */
+/* peak PROGRAM ARGUMENTS: runs a program and then says on standard error how many kilobytes of memory it held at most
+ * (ru_maxrss). What a process held before it became the program counts too, so what starts it must be small. */
 #include <stdio.h>
-#include <stdlib.h>
 #include <sys/resource.h>
 #include <sys/wait.h>
 #include <unistd.h>
