@@ -4,6 +4,7 @@ import contextlib
 import fcntl
 import os
 import resource
+import select
 import signal
 import subprocess
 import tempfile
@@ -14,21 +15,24 @@ SECONDS = 20
 UNREAD = b'standard input cannot be read\n'
 UNWRITTEN = b'standard output cannot be written\n'
 PIECE = 4096
+PIPE = 65536  # what a pipe holds
+QUIET = 0.05
 
 
 class Run:
     """A program that has ended: its exit status, standard output as far as it was a pipe, and standard error. One that had
-    to be killed has no exit status, or that of the signal, and so is never right."""
+    to be killed has no exit status, or that of the signal, and one that printed too early has none: it is never right."""
 
     def __init__(self, code, out, err):
         self.code, self.out, self.err = code, out, err
 
-    def is_right(self, wanted):
-        return (self.code, self.out, self.err) == (0, wanted, b'')
+    def is_right(self, wanted, said=b''):
+        return (self.code, self.out, self.err) == (0, wanted, said)
 
-    def told(self, line, wanted=b''):
-        """It ended by itself, said the line, and wrote a prefix of what was wanted."""
-        return self.code == 0 and self.err == line and wanted.startswith(self.out)
+    def told(self, line, wanted=b'', beside=b''):
+        """It ended by itself, said the line, perhaps another one beside it, and wrote a prefix of what was wanted."""
+        lines = (line, beside + line, line + beside)
+        return self.code == 0 and self.err in lines and wanted.startswith(self.out)
 
 
 def run(command, text=b'', stdout=subprocess.PIPE, seconds=SECONDS, **more):
@@ -79,13 +83,14 @@ def unready(command, front):
         os.close(into)
 
 
-def slow_input(command, text):
-    """An input that comes in pieces, some of a byte."""
+def slow_input(command, text, size=PIECE):
+    """An input that comes in pieces, some of a byte. Nothing may be printed before its end."""
     with started(command, stdout=subprocess.PIPE) as p:
         feed(p, (text[k:k + 1] for k in range(3)), 0.02)
-        feed(p, (text[at:at + PIECE] for at in range(3, len(text), PIECE)), 0.002)
+        feed(p, (text[at:at + size] for at in range(3, len(text), size)), 0.002)
+        is_early = p.stdout in select.select([p.stdout], [], [], QUIET)[0]
         out, err = p.communicate()
-        return Run(p.returncode, out, err)
+        return Run(None if is_early else p.returncode, out, err)
 
 
 def slow_output(command, text, is_blocking):
@@ -109,15 +114,18 @@ def slow_output(command, text, is_blocking):
         return Run(p.wait(), b''.join(pieces), p.stderr.read())
 
 
-def left_output(command, text, preparation=None):
-    """A reader that takes a piece and goes away."""
+def left_output(command, text, size, preparation=None):
+    """A reader that takes a piece, or nothing, and goes away."""
     out, into = os.pipe()
     with started(command, stdout=into, preexec_fn=preparation) as p:
         os.close(into)
         feed(p, [text])
-        p.stdin.close()
-        piece = os.read(out, PIECE)
+        piece = b''
+        if size:
+            p.stdin.close()
+            piece = os.read(out, size)
         os.close(out)
+        p.stdin.close()
         return Run(p.wait(), piece, p.stderr.read())
 
 
@@ -138,61 +146,89 @@ def into_file(command, text, size):
         return Run(done.code, file.read(), done.err)
 
 
-def arguments(hubcalls, hubaudit, text):
+def arguments(program, usage, lists, text):
     """(good, words) for each list of arguments that is refused."""
-    calls = [['x'], [''], ['0', '1']]
-    audits = [[], ['0', '0'], [''], ['00'], ['01'], ['256'], ['300'], ['1000'], ['00000'], ['-1'], ['+1'], [' 1'], ['1 '], ['a']]
-    for program, usage, words in ((hubcalls, b'usage: hubcalls <TEXT\n', calls), (hubaudit, b'usage: hubaudit SLOT <TEXT\n', audits)):
-        for word in words:
-            yield run([program, *word], text).told(usage), '%s with arguments %r' % (program, word)
+    for words in lists:
+        yield run([program, *words], text).told(usage), '%s with arguments %r' % (program, words)
 
 
-def inputs(command, text, wanted, refused):
-    """(good, words) for each kind of input. The text's output is wanted, and that of one that is too long is refused."""
+def inputs(command, text, wanted, counts=()):
+    """(good, words) for each kind of input that any length may have. The text's output is wanted; counts are more numbers
+    of its bytes after which nothing comes."""
     name = ' '.join(command)
     directory = os.open('/', os.O_RDONLY)
-    zeros = os.open('/dev/zero', os.O_RDONLY)
     yield run(command, None, stdin=directory).told(UNREAD), name + ' on a directory'
-    yield run(command, None, preexec_fn=lambda: os.close(0)).told(UNREAD), name + ' on a closed input'
-    yield run(command, None, stdin=zeros).is_right(refused), name + ' on an endless input'
     os.close(directory)
-    os.close(zeros)
-    for count in (0, 1, len(text) // 2, len(text)):
+    yield run(command, None, preexec_fn=lambda: os.close(0)).told(UNREAD), name + ' on a closed input'
+    for count in (0, 1, len(text) // 2, len(text), *counts):
         yield unready(command, text[:count]).told(UNREAD), '%s on a non-blocking input with %d bytes' % (name, count)
-    long = text + b'x' * (65536 - len(text))
-    yield unready(command, long[:-1]).told(UNREAD), name + ' on a non-blocking input with 65535 bytes'
-    yield unready(command, long).is_right(refused), name + ' on a non-blocking input with 65536 bytes'
     yield slow_input(command, text).is_right(wanted), name + ' on a slow input'
 
 
-def unwritable(command, text, name):
-    """(good, words) for each output that takes nothing."""
+def long_inputs(command, text, refused, said=b''):
+    """(good, words) for inputs about 65,536 bytes and above, where that is refused, which is also said."""
+    name = ' '.join(command)
+    zeros = os.open('/dev/zero', os.O_RDONLY)
+    yield run(command, None, stdin=zeros).is_right(refused, said), name + ' on an endless input'
+    os.close(zeros)
+    long = text + b'x' * (65536 - len(text))
+    yield unready(command, long[:-1]).told(UNREAD), name + ' on a non-blocking input with 65535 bytes'
+    yield unready(command, long).is_right(refused, said), name + ' on a non-blocking input with 65536 bytes'
+
+
+def full_pipe():
+    """Both ends of a pipe that does not block and takes nothing."""
+    out, into = os.pipe()
+    unblock(into)
+    with contextlib.suppress(BlockingIOError):
+        while os.write(into, bytes(PIECE)):
+            pass
+    return out, into
+
+
+def unwritable(command, text, name, beside=b''):
+    """(good, words) for each output that takes nothing. Perhaps another line is said beside that."""
     full = os.open('/dev/full', os.O_WRONLY)
     directory = os.open('/', os.O_RDONLY)
-    yield run(command, text, full).told(UNWRITTEN), name + ' to /dev/full'
-    yield run(command, text, directory).told(UNWRITTEN), name + ' to a directory'
-    yield run(command, text, None, preexec_fn=lambda: os.close(1)).told(UNWRITTEN), name + ' to a closed output'
-    os.close(full)
-    os.close(directory)
+    out, into = full_pipe()
+    for file, kind in ((full, '/dev/full'), (directory, 'a directory'), (into, 'a full pipe that does not block')):
+        yield run(command, text, file).told(UNWRITTEN, beside=beside), '%s to %s' % (name, kind)
+        os.close(file)
+    os.close(out)
+    done = run(command, text, None, preexec_fn=lambda: os.close(1))
+    yield done.told(UNWRITTEN, beside=beside), name + ' to a closed output'
+    # a Rattle program ignores SIGPIPE from its start on, so that the write fails
+    for preparation, also in ((None, ''), (ignore_pipe, ', SIGPIPE ignored')):
+        done = left_output(command, text, 0, preparation)
+        yield done.told(UNWRITTEN, beside=beside), '%s to a reader that has gone%s' % (name, also)
 
 
-def refusals(hubcalls, hubaudit, text):
-    """(good, words) for each output that takes no refusal: of an empty text, or of an audit of a text."""
-    for command, refused in (([hubcalls], b''), ([hubaudit, '0'], b''), ([hubaudit, '255'], text)):
-        name = '%s refusing a text of %d bytes' % (' '.join(command), len(refused))
-        yield run(command, refused).out.startswith(b'refused '), name
-        yield from unwritable(command, refused, name)
+def refusal(command, text, is_said):
+    """(good, words) for each output that takes no refusal of the text, which may be said on standard error too."""
+    name = '%s refusing %d bytes' % (' '.join(command), len(text))
+    done = run(command, text)
+    said = done.out if is_said else b''
+    yield done.out.startswith(b'refused ') and done.is_right(done.out, said), name
+    yield from unwritable(command, text, name, said)
 
 
 def outputs(command, text, wanted):
-    """(good, words) for each kind of output."""
+    """(good, words) for each kind of output that any length may have."""
     name = ' '.join(command)
     yield from unwritable(command, text, name)
-    for size in (0, 5, 4096, 65536, len(wanted) - 1):
-        done = into_file(command, text, size)
-        yield done.told(UNWRITTEN, wanted) and len(done.out) == size, '%s to a file of at most %d bytes' % (name, size)
+    for size in {0, 5, 4096, 65536, len(wanted) - 1}:
+        if size < len(wanted):
+            done = into_file(command, text, size)
+            good = done.told(UNWRITTEN, wanted) and len(done.out) == size
+            yield good, '%s to a file of at most %d bytes' % (name, size)
     yield slow_output(command, text, True).is_right(wanted), name + ' to a slow output'
+
+
+def long_outputs(command, text, wanted):
+    """(good, words) where a pipe takes a front part only."""
+    name = ' '.join(command)
+    yield len(wanted) > PIPE + PIECE, name + ' prints more than a pipe and a piece'
     yield slow_output(command, text, False).told(UNWRITTEN, wanted), name + ' to a slow non-blocking output'
-    # a Rattle program ignores SIGPIPE from its start on, so that the write fails
-    yield left_output(command, text).told(UNWRITTEN, wanted), name + ' to a reader that goes away'
-    yield left_output(command, text, ignore_pipe).told(UNWRITTEN, wanted), name + ' to a reader that goes away, SIGPIPE ignored'
+    for preparation, also in ((None, ''), (ignore_pipe, ', SIGPIPE ignored')):
+        done = left_output(command, text, PIECE, preparation)
+        yield done.told(UNWRITTEN, wanted), '%s to a reader that goes away%s' % (name, also)

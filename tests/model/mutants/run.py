@@ -3,8 +3,9 @@
 
 Runs the cases of a directory and its folders against the model and against each mutant.
 NAME.txt is a text and NAME.out the output expected for it; NAME.script is a
-script and NAME.sout the answers expected to it; NAME.watch is a pair of two runs,
-as the program `pairs` writes it, for the check of tests/pairs.py.
+script and NAME.sout the answers expected to it; NAME.records is a list of records
+and NAME.page its tally; NAME.watch is a pair of two runs, as the program `pairs`
+writes it, for the check of tests/pairs.py.
 
 A mutant is a file NAME.patch beside this program with three lines: `file: PATH`,
 `old: LINE` and `new: LINE`. The one line of the file that equals LINE, spaces at
@@ -26,6 +27,8 @@ sys.path.insert(0, os.path.dirname(PACKAGE))
 SECONDS = 20
 # Modules that make or check input and hold no rule; left out for a quicker build.
 LEFT_OUT = ("pub mod generate;", "pub mod tworuns;")
+# By the ending of a case: the program that it is for, and the ending of what is expected.
+CASES = {".records": ("tally", ".page"), ".script": ("script", ".sout"), ".txt": ("model", ".out")}
 
 
 def read_patch(path):
@@ -52,10 +55,10 @@ def apply(root, path, old, new):
 
 
 def build(root):
-    """Builds the library and the programs `model` and `script`; the error if it fails."""
+    """Builds the library and the programs that cases are for; the error if it fails."""
     common = ["rustc", "--edition", "2021", "-C", "opt-level=0", "-C", "debuginfo=0", "-A", "warnings"]
     steps = [["--crate-type", "rlib", "--crate-name", "hub", "src/lib.rs", "-o", "libhub.rlib"]]
-    for program in ("model", "script"):
+    for program, _ in CASES.values():
         steps.append(["--extern", "hub=libhub.rlib", f"src/bin/{program}.rs", "-o", program])
     for step in steps:
         done = subprocess.run(common + step, cwd=root, capture_output=True, text=True)
@@ -74,7 +77,7 @@ def fails(root, stem, kind):
     if kind == ".watch":
         from pairs import fault
         return fault(os.path.join(root, "script"), stem) is not None
-    program, expected = {".txt": ("model", ".out"), ".script": ("script", ".sout")}[kind]
+    program, expected = CASES[kind]
     try:
         done = subprocess.run([os.path.join(root, program)], input=read(stem + kind), timeout=SECONDS,
                               stdout=subprocess.PIPE, stderr=subprocess.DEVNULL)
@@ -84,10 +87,12 @@ def fails(root, stem, kind):
 
 
 def read_cases(directory):
+    """Pairs if there are any, else lists of records, scripts and texts in this order: the few that catch much come first."""
     names = sorted(os.path.join(folder, name) for folder, _, files in os.walk(directory) for name in files)
     paths = [os.path.splitext(name) for name in names]
     pairs = [path for path in paths if path[1] == ".watch"]
-    return pairs or [path for path in paths if path[1] in (".txt", ".script")]
+    order = list(CASES)
+    return pairs or sorted((path for path in paths if path[1] in CASES), key=lambda path: order.index(path[1]))
 
 
 def differing(root, cases):

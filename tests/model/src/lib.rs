@@ -10,7 +10,8 @@
 //! - `record`: the sixteen bytes and the need
 //! - `audit`: which records an auditor is shown
 //! - `text`: the loader
-//! - `hubcalls`, `hubaudit`: what the programs print
+//! - `tally`: the records of each caller, counted
+//! - `hubcalls`, `hubaudit`, `hubtally`: what the programs print
 //! - `raw`: tables that may lack the form, and 99
 //! - `script`: the line-based scripts of SCRIPT.md
 //!
@@ -25,10 +26,12 @@ pub mod hex;
 pub mod hub;
 pub mod hubaudit;
 pub mod hubcalls;
+pub mod hubtally;
 pub mod raw;
 pub mod record;
 pub mod refusal;
 pub mod script;
 pub mod tags;
+pub mod tally;
 pub mod text;
 pub mod tworuns;

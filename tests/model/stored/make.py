@@ -5,18 +5,26 @@ Makes the stored cases anew from fixed seeds, with the model's answers. PROGRAMS
 the directory of the built programs, else where cargo build --release leaves them.
 Each kind of cases has a folder.
 """
+import itertools
 import os
+import random
 import shutil
 import subprocess
 import sys
 
 HERE = os.path.dirname(os.path.abspath(__file__))
+sys.path.insert(0, os.path.dirname(os.path.dirname(HERE)))
+from records import near
+
 BUILT = os.path.join(os.path.dirname(HERE), "target", "release")
 PROGRAMS = sys.argv[1] if len(sys.argv) > 1 else BUILT
 
 TEXTS = [("rounds", 20, 120), ("damaged", 21, 401), ("mixed", 22, 19)]
 SCRIPTS = range(1, 49)
 SCENES = 4
+LISTS_SEED = 23
+# Lengths of lists of records, about those of a record and of hubtally's buffer
+LENGTHS = [0, 1, 8, 15, 16, 17, 31, 32, 33, 4095, 4096, 4097, 65535, 65536, 65537, 65551, 65552, 131072, 131088, 200000]
 
 # The most calls that a text of 65,535 bytes can hold: no line of calls is shorter than these. Without an entity all are
 # refused; with one program, which is the auditor too, there is one call fewer.
@@ -30,6 +38,36 @@ def most_calls(entities):
     start = TABLE % entities
     count = (LONGEST - len(start)) // len(CALLS[0])
     return (start + "".join(CALLS[k % 2] for k in range(count))).encode()
+
+
+def record(caller, number, moved, other=bytes(16)):
+    """A record with these three bytes, and otherwise those of another."""
+    return bytes([other[0], caller, other[2], number, moved]) + other[5:]
+
+
+def lists():
+    """Lists of records by name."""
+    source = random.Random(LISTS_SEED)
+
+    def listed(fields):
+        return b"".join(record(*three, source.randbytes(16)) for three in fields)
+
+    for length in LENGTHS:
+        yield f"length-{length:06}", near(source, length)
+    yield "any-bytes", source.randbytes(16000)
+    yield "all-0", bytes(257 * 16)
+    yield "all-255", bytes([255]) * 65552
+    yield "each-row", listed((caller, 0, 1) for caller in range(33))
+    yield "each-count", listed((5, number, 1) for number in range(19))
+    yield "each-cell", listed((caller, number, caller + number) for caller in range(33) for number in range(19))
+    yield "each-caller", listed((caller, 2, caller) for caller in range(256))
+    yield "each-number", listed((8, number, 255) for number in range(256))
+    yield "ends", listed(itertools.product((0, 31, 32, 255), (0, 17, 18, 99, 255), (0, 1, 64, 255)))
+    yield "moved-though-refused", listed((3, number, 255) for number in (*range(1, 19), 99, 255))
+    # the bytes that count stay, the others take every value together and some alone
+    others = (bytes([byte]) * 16 for byte in range(256))
+    alone = (bytes(k) + bytes([byte]) + bytes(15 - k) for k in range(16) for byte in (1, 31, 32, 255))
+    yield "other-bytes", b"".join(record(9, 7, 64, other) for other in (*others, *alone))
 
 
 def run(program, *arguments, given=b""):
@@ -62,6 +100,8 @@ def answer(folder):
             write(folder, stem + ".out", run("model", given=read(folder, name)))
         elif kind == ".script":
             write(folder, stem + ".sout", run("script", given=read(folder, name)))
+        elif kind == ".records":
+            write(folder, stem + ".page", run("tally", given=read(folder, name)))
 
 
 def main():
@@ -76,6 +116,10 @@ def main():
     folder = fresh("scripts")
     for seed in SCRIPTS:
         write(folder, f"script-{seed:02}.script", run("generate_script", seed, SCENES))
+    answer(folder)
+    folder = fresh("tally")
+    for name, content in lists():
+        write(folder, name + ".records", content)
     answer(folder)
 
 
