@@ -29,10 +29,9 @@ class Run:
     def is_right(self, wanted, said=b''):
         return (self.code, self.out, self.err) == (0, wanted, said)
 
-    def told(self, line, wanted=b'', beside=b''):
-        """It ended by itself, said the line, perhaps another one beside it, and wrote a prefix of what was wanted."""
-        lines = (line, beside + line, line + beside)
-        return self.code == 0 and self.err in lines and wanted.startswith(self.out)
+    def told(self, line, wanted=b'', before=b''):
+        """It ended by itself, said the line, perhaps behind another one, and wrote a prefix of what was wanted."""
+        return (self.code, self.err) == (0, before + line) and wanted.startswith(self.out)
 
 
 def run(command, text=b'', stdout=subprocess.PIPE, seconds=SECONDS, **more):
@@ -186,21 +185,21 @@ def full_pipe():
     return out, into
 
 
-def unwritable(command, text, name, beside=b''):
-    """(good, words) for each output that takes nothing. Perhaps another line is said beside that."""
+def unwritable(command, text, name, before=b''):
+    """(good, words) for each output that takes nothing. Perhaps another line is said before that."""
     full = os.open('/dev/full', os.O_WRONLY)
     directory = os.open('/', os.O_RDONLY)
     out, into = full_pipe()
     for file, kind in ((full, '/dev/full'), (directory, 'a directory'), (into, 'a full pipe that does not block')):
-        yield run(command, text, file).told(UNWRITTEN, beside=beside), '%s to %s' % (name, kind)
+        yield run(command, text, file).told(UNWRITTEN, before=before), '%s to %s' % (name, kind)
         os.close(file)
     os.close(out)
     done = run(command, text, None, preexec_fn=lambda: os.close(1))
-    yield done.told(UNWRITTEN, beside=beside), name + ' to a closed output'
+    yield done.told(UNWRITTEN, before=before), name + ' to a closed output'
     # a Rattle program ignores SIGPIPE from its start on, so that the write fails
     for preparation, also in ((None, ''), (ignore_pipe, ', SIGPIPE ignored')):
         done = left_output(command, text, 0, preparation)
-        yield done.told(UNWRITTEN, beside=beside), '%s to a reader that has gone%s' % (name, also)
+        yield done.told(UNWRITTEN, before=before), '%s to a reader that has gone%s' % (name, also)
 
 
 def refusal(command, text, is_said):
