@@ -7,16 +7,16 @@ ghost use Rattle.load.specs.Load.{load_of};
 use monitor::Table;
 use std::io;
 
-// What a program writes to standard output: lines for people, or records as they are, for another program.
+// How a program writes records: in hexadecimal, a line each, or as they are, for another program to read.
 #[derive(Clone, Copy)]
-pub enum Form {
-    Lines,
+pub enum Format {
+    Hex,
     Raw,
 }
 
-// Writes the line of a refusal. Where records are expected it is told, too, since nobody reads them.
-pub fn refuse(rt: &HostRuntime, line: &[u8], form: Form) -> io::Result<()> {
-    if let Form::Raw = form {
+// Writes the line of a refusal. Where another program reads standard output, the line is told, too.
+pub fn refuse(rt: &HostRuntime, line: &[u8], format: Format) -> io::Result<()> {
+    if let Format::Raw = format {
         stdio::tell(rt, line);
     }
     stdio::write(rt, line)
@@ -31,7 +31,7 @@ pub struct Accepted<'a> {
 
 // Reads a text into a buffer, as much of it as the buffer takes. None where there is no text to go on with, which is then said:
 // that a read fails is no fact of the logic, so no clause says when.
-pub fn read_text<'a>(rt: &HostRuntime, buf: &'a mut [u8], form: Form) -> Option<Accepted<'a>>
+pub fn read_text<'a>(rt: &HostRuntime, buf: &'a mut [u8], format: Format) -> Option<Accepted<'a>>
     ensures verdict { IfSome result (λ r. (load_of r.text.now).verdict ≡ Ok tt) }
     ensures table { IfSome result (λ r. r.table ≡ (load_of r.text.now).table) }
 {
@@ -43,7 +43,7 @@ pub fn read_text<'a>(rt: &HostRuntime, buf: &'a mut [u8], form: Form) -> Option<
     let loaded = load::load(text);
     if let Err(fault) = loaded.verdict {
         let line = print::refused_line(fault.refusal.number(), fault.line);
-        let _said = refuse(rt, &line, form);
+        let _said = refuse(rt, &line, format);
         return None;
     }
     Some(Accepted {

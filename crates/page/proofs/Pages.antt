@@ -5,11 +5,12 @@ use Rattle.std.specs.List.{flat_map}
 use Rattle.std.proofs.lemmas.List.{at_drop_more, at_drop_all, append-nil, append_assoc, take_all, length-append}
 use Rattle.std.proofs.lemmas.Bool.{cond_both, ltb-true}
 use Rattle.text.specs.Ascii.{ascii}
-use Rattle.print.specs.Lines.{decimal_text, line_with}
+use Rattle.print.specs.Lines.{digits_text, decimal_text, line_with}
 use Rattle.print.proofs.Laws.{with_nothing, with_both, decimal_few, decimal_most}
 use Rattle.tally.specs.declared.Row.{Row}
 use Rattle.tally.specs.declared.Tally.{Tally}
-use Rattle.page.specs.Page.{names_line, cell, caller_text, row_line, row_lines, page_of, row_size, page_size}
+use Rattle.page.specs.Page.{cell, caller_text, row_line, row_lines, page_of, row_size, page_size}
+use Rattle.page.specs.Claims.{names}
 
 module _ (x : List ℕ) (ns : List ℕ) (k : ℕ) where
   pub cells_more : k < length ns → line_with page_size (line_with page_size x (cell (get_or ns k 0))) (flat_map cell (drop (k + 1) ns)) ≡ line_with page_size x (flat_map cell (drop k ns))
@@ -53,9 +54,9 @@ pub record Rows (t : Tally) (page : List ℕ) (k : ℕ) : Type 0 where
   pub short : length page ≤ 80 + k * 425
 
 module _ (t : Tally) where
-  pub no_rows : Rows t names_line 0
-  unfolding page_of
-  no_rows = record { gives = refl; short = omega arith }
+  pub no_rows : (page : List ℕ) → page ≡ line_with page_size [] names → Rows t page 0
+  unfolding page_of digits_text decimal_text
+  no_rows page e = rw e (record { gives = refl; short = omega arith })
 
   module _ {page : List ℕ} {k : ℕ} (r : Rows t page k) where
     pub rows_more : (next : List ℕ) (d : Row) → k < length t.rows → length t.rows ≡ 33 → next ≡ line_with page_size page (row_line k (get_or t.rows k d)) → length (row_line k (get_or t.rows k d)) ≤ row_size

@@ -2,9 +2,11 @@
 -- Assumes nothing.
 use Rattle.std.specs.Prelude.{◌≡◌, ℕ, ◌<◌, List, [], ◌∷◌, ◌++◌, replicate}
 use Prim.Native.String.{String}
+use Rattle.rules.specs.declared.Refusal.{Refusal}
+use Rattle.rules.specs.Numbers.{number}
 use Rattle.text.specs.Ascii.{ascii}
 use Rattle.print.specs.Lines.{refused_line, refused_audit}
-use Rattle.page.specs.Page.{output_of}
+use Rattle.page.specs.Page.{page_output}
 
 abbrev pub names : List ℕ
 names = ascii "caller n0 n1 n2 n3 n4 n5 n6 n7 n8 n9 n10 n11 n12 n13 n14 n15 n16 n17 more bytes\n"
@@ -32,15 +34,15 @@ abbrev pub edges : List ℕ
 edges = entry 0 0 64 ++ entry 0 0 255 ++ entry 31 17 1 ++ entry 31 18 0 ++ entry 32 99 0 ++ entry 255 255 9
 
 pub record PagesWorked : Type 0 where
-  pub none : output_of [] ≡ names ++ quiet "0" ++ quiet "1" ++ quiet_2_to_30 ++ quiet "31" ++ quiet "more"
-  pub round : output_of watering ≡ names ++ quiet "0" ++ ascii "1 3 0 0 0 0 0 0 2 0 0 1 0 0 0 0 0 0 0 0 4\n" ++ quiet_2_to_30 ++ quiet "31" ++ quiet "more"
-  pub edge : output_of edges ≡
+  pub none : page_output [] ≡ names ++ quiet "0" ++ quiet "1" ++ quiet_2_to_30 ++ quiet "31" ++ quiet "more"
+  pub round : page_output watering ≡ names ++ quiet "0" ++ ascii "1 3 0 0 0 0 0 0 2 0 0 1 0 0 0 0 0 0 0 0 4\n" ++ quiet_2_to_30 ++ quiet "31" ++ quiet "more"
+  pub edge : page_output edges ≡
       names ++ ascii "0 2 0 0 0 0 0 0 0 0 0 0 0 0 0 0 0 0 0 0 319\n" ++ quiet "1" ++ quiet_2_to_30
       ++ ascii "31 0 0 0 0 0 0 0 0 0 0 0 0 0 0 0 0 0 1 1 1\n" ++ ascii "more 0 0 0 0 0 0 0 0 0 0 0 0 0 0 0 0 0 0 2 9\n"
-  pub part : output_of (entry 0 0 64 ++ 4 ∷ []) ≡ ascii "refused 12\n"
+  pub part : page_output (entry 0 0 64 ++ 4 ∷ []) ≡ ascii "refused 12\n"
 
--- A refusal of hubaudit's, in the place of records, is refused by 12 and gives no page of zeros: its numbers are below 100, and a text
--- of at most 65,535 bytes has fewer lines than 100,000
+-- The line of a refused text or audit, in the place of records, is refused by 12 and gives no page of zeros. A text of at most 65,535
+-- bytes has fewer lines than 100,000
 pub record RefusalsRefused : Type 0 where
-  pub text : (number line : ℕ) → number < 100 → line < 100000 → output_of (refused_line number line) ≡ refused_audit 12
-  pub audit : (number : ℕ) → number < 100 → output_of (refused_audit number) ≡ refused_audit 12
+  pub text : (e : Refusal) (line : ℕ) → line < 100000 → page_output (refused_line (number e) line) ≡ refused_audit 12
+  pub audit : (e : Refusal) → page_output (refused_audit (number e)) ≡ refused_audit 12

@@ -1,7 +1,7 @@
 -- Document 02, change 1: the page that hubtally prints.
 -- Assumes nothing.
-use Rattle.std.specs.Prelude.{ℕ, ◌+◌, cond, ltb, List, [], ◌∷◌, ◌++◌, Result, Ok, Err}
-use Rattle.std.specs.List.{flat_map}
+use Rattle.std.specs.Prelude.{ℕ, ◌+◌, ◌*◌, cond, ltb, List, [], ◌∷◌, ◌++◌, Result, Ok, Err}
+use Rattle.std.specs.List.{flat_map, range_with_len}
 use Rattle.rules.specs.declared.Refusal.{Refusal}
 use Rattle.rules.specs.Numbers.{number}
 use Rattle.text.specs.Ascii.{ascii}
@@ -10,8 +10,9 @@ use Rattle.tally.specs.declared.Row.{Row}
 use Rattle.tally.specs.declared.Tally.{Tally}
 use Rattle.tally.specs.Tally.{tally_of}
 
+-- the line of names: caller, n0 to n17, more, bytes
 abbrev pub names_line : List ℕ
-names_line = ascii "caller n0 n1 n2 n3 n4 n5 n6 n7 n8 n9 n10 n11 n12 n13 n14 n15 n16 n17 more bytes\n"
+names_line = ascii "caller" ++ flat_map (λ n. ascii " n" ++ decimal_text n) (range_with_len 0 18) ++ ascii " more bytes\n"
 
 -- what stands for a row: the caller's slot from 0 to 31, and `more` in the last
 abbrev pub caller_text : ℕ → List ℕ
@@ -35,17 +36,17 @@ unfoldable pub page_of : Tally → List ℕ
 page_of t = names_line ++ row_lines 0 t.rows
 
 -- what is printed of a tally, and of a refusal
-abbrev pub printed : Result Tally Refusal → List ℕ
-printed (Ok t) = page_of t
-printed (Err e) = refused_audit (number e)
+abbrev pub page_or_refusal : Result Tally Refusal → List ℕ
+page_or_refusal (Ok t) = page_of t
+page_or_refusal (Err e) = refused_audit (number e)
 
 -- what hubtally has to print for an input
-abbrev pub output_of : List ℕ → List ℕ
-output_of list = printed (tally_of list)
+abbrev pub page_output : List ℕ → List ℕ
+page_output list = page_or_refusal (tally_of list)
 
 -- a row has at most 425 bytes, and a page 80 of names and 33 rows
 abbrev pub row_size : ℕ
 row_size = 425
 
 abbrev pub page_size : ℕ
-page_size = 14105
+page_size = 80 + 33 * row_size

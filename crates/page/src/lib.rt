@@ -5,18 +5,20 @@ ghost use Rattle.std.specs.Prelude.{◌≡◌, ◌*◌, ◌≤◌, length, IfOk,
 ghost use Rattle.std.specs.List.{flat_map};
 ghost use Rattle.print.specs.Lines.{line_with};
 ghost use Rattle.tally.specs.Tally.{tally_of};
-ghost use Rattle.page.specs.Page.{caller_text, cell, row_line, row_size, page_size, page_of, printed, output_of};
+ghost use Rattle.page.specs.Page.{caller_text, cell, row_line, row_size, page_size, page_of, page_or_refusal, page_output};
 
 use arrayvec::ArrayVec;
+use records::SIZE;
 use rules::Refusal;
 use std::io;
 use std::io::{ErrorKind, Read};
-use tally::{Row, Tally};
+use tally::{CALLERS, Row, Tally};
 
 // A page: the names take 80 bytes, and a row at most 425, a word of 4, a space and 20 digits for each of 20 numbers, and byte 10.
 pub type Page = ArrayVec<u8, 14105>;
 
 // A number behind a space.
+#[tactic(auto, using(crate::proofs::Pages::cell_short))]
 fn push_cell(page: &mut Page, n: u64)
     ensures short { length (cell n) ≤ 21 }
     ensures text { page.new.items ≡ line_with page_size page.old.items (cell n) }
@@ -36,11 +38,12 @@ fn push_cells(page: &mut Page, numbers: &[u64])
 }
 
 // What stands for a row: a caller's slot, or all higher numbers.
+#[tactic(auto, using(crate::proofs::Pages::caller_short))]
 fn push_caller(page: &mut Page, caller: usize)
     ensures short { length (caller_text caller) ≤ 4 }
     ensures text { page.new.items ≡ line_with page_size page.old.items (caller_text caller) }
 {
-    if caller < 32 {
+    if caller < CALLERS {
         print::push_decimal(page, caller as u64);
     } else {
         print::push_bytes(page, b"more");
@@ -75,8 +78,8 @@ pub fn page_of(tally: &Tally) -> Page
 }
 
 // What is printed of a tally, or of a refusal.
-fn printed(tallied: &Result<Tally, Refusal>) -> Page
-    ensures { result.items ≡ printed tallied.now }
+fn page_or_refusal(tallied: &Result<Tally, Refusal>) -> Page
+    ensures { result.items ≡ page_or_refusal tallied.now }
 {
     match tallied {
         Ok(tally) => page_of(tally),
@@ -88,18 +91,24 @@ fn printed(tallied: &Result<Tally, Refusal>) -> Page
     }
 }
 
-// The tally of all that an input gives, a buffer at a time. A full one holds whole records, so none stands in two.
+// How many bytes are read at a time: whole records, so that none stands in two buffers.
+const BUFFER: usize = 4096 * SIZE;
+
+// The tally of all that an input gives, a buffer at a time. Where a read fails there is none; that it fails is no fact of the logic,
+// so no clause says when.
 fn tally_input<R: Read>(input: &mut R) -> io::Result<Result<Tally, Refusal>>
     ensures { IfOk result (λ tallied. IfSome (R.remaining input.old) (λ list. tallied ≡ tally_of list)) }
 {
-    let mut buf = [0u8; 65536];
+    let mut buf = [0u8; BUFFER];
     let mut tally = Tally::new();
+    // A loop has to end, so its turns are counted.
     for _ in 0..u64::MAX {
         let n = stdio::fill(input, &mut buf)?;
         let tallied = tally.with_records(handing::front(&buf, n));
         if n < buf.len() {
             return Ok(tallied);
         }
+        // A full buffer is not refused.
         let Ok(more) = tallied else {
             return Ok(tallied);
         };
@@ -108,9 +117,9 @@ fn tally_input<R: Read>(input: &mut R) -> io::Result<Result<Tally, Refusal>>
     Err(io::Error::from(ErrorKind::FileTooLarge))
 }
 
-// What hubtally prints for an input: the page of the records that it gives, or the refusal by 12.
+// What hubtally prints for an input: the page of the records that it gives, or the refusal by 12. Nothing where a read fails.
 pub fn output<R: Read>(input: &mut R) -> io::Result<Page>
-    ensures { IfOk result (λ page. IfSome (R.remaining input.old) (λ list. page.items ≡ output_of list)) }
+    ensures { IfOk result (λ page. IfSome (R.remaining input.old) (λ list. page.items ≡ page_output list)) }
 {
-    Ok(printed(&tally_input(input)?))
+    Ok(page_or_refusal(&tally_input(input)?))
 }

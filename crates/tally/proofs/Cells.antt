@@ -12,8 +12,8 @@ use Rattle.rules.specs.Record.{record_size, records_in}
 use Rattle.label.specs.Words.{words}
 use Rattle.tally.specs.declared.Row.{Row}
 use Rattle.tally.specs.declared.Tally.{Tally}
-use Rattle.tally.specs.Tally.{caller_in, number_in, moved_in, row_of, count_of, row_with, no_row, no_records, counted, counted_all, records_of, with_records, tally_of}
-use Rattle.tally.specs.Claims.{row_at, count_at, in_row, in_count, Counts, CellsCount, CountsTogether}
+use Rattle.tally.specs.Tally.{caller_in, number_in, moved_in, row_of, count_of, row_with, no_row, row_at, no_records, counted, counted_all, records_of, with_records, tally_of}
+use Rattle.tally.specs.Claims.{count_at, in_row, in_count, Cells, CellsCount, CountsTogether}
 
 abbrev M : ℕ
 M = 2 ^ 64
@@ -146,7 +146,7 @@ ones : (rs : List (List ℕ)) → sum_by (λ r. 1) rs ≡ length rs
 ones [] = refl
 ones (r ∷ rs) = sum_by-cons (λ r. 1) r rs ∙ omega (arith, ones rs)
 
-cells : (rs : List (List ℕ)) → Counts (counted_all no_records rs) rs
+cells : (rs : List (List ℕ)) → Cells (counted_all no_records rs) rs
 cells rs = record {
   counts = λ i n l q.
       sums (λ t. count_at t i n) (λ r. in_row i r && in_count n r) (λ r. 1) (count_step i l n q) no_records rs none_shaped

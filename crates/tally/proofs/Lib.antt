@@ -1,3 +1,4 @@
 pub mod Counting
 pub mod Pieces
 pub mod Cells
+pub mod Records

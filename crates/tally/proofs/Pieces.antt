@@ -1,8 +1,9 @@
 -- A list in pieces.
 -- Assumes nothing.
-use Rattle.std.proofs.Common.{◌≡◌, refl, sym, ap, ◌∙◌, ℕ, zero, suc, ◌*◌, ◌/◌, ◌%◌, List, [], ◌∷◌, ◌++◌, length, take, drop, arith, Ok}
+use Rattle.std.proofs.Common.{◌≡◌, refl, sym, ap, ◌∙◌, ℕ, zero, suc, ◌*◌, ◌/◌, ◌%◌, List, [], ◌∷◌, ◌++◌, length, take, drop, arith, Result, Ok, Err}
 use Rattle.std.proofs.lemmas.List.{length-append, length-take-le, length-drop, take-append-drop, append_assoc}
 use Rattle.std.specs.List.{concat}
+use Rattle.rules.specs.declared.Refusal.{Refusal}
 use Rattle.rules.specs.Record.{record_size}
 use Rattle.label.specs.Words.{words}
 use Rattle.tally.specs.declared.Tally.{Tally}
@@ -35,13 +36,18 @@ module _ (t : Tally) (a : List ℕ) (h : IsWhole a) where
   with_piece b =
       let s : length (a ++ b) % 16 ≡ length b % 16 = omega (arith, length-append a b, h) in
       let w : with_records t (a ++ b) ≡ with_records (counted_all t (records_of a)) b = rw (s, records_before (length a / 16) t a b (omega (arith, h))) in
-      w ∙ ap (λ (r : _). and_then r (λ u. with_records u b)) (sym whole)
+      w ∙ ap (λ (r : Result Tally Refusal). and_then r (λ u. with_records u b)) (sym whole)
 
 pub pieces_join : PiecesJoin
-unfolding with_pieces with_records
-pieces_join t [] w = ap Ok (counted_none t [] (omega arith))
-pieces_join t (p ∷ ps) w =
+unfolding with_pieces
+pieces_join t [] last w = go (with_records t last)
+  where
+    go : (r : Result Tally Refusal) → and_then r Ok ≡ r
+    go (Ok u) = refl
+    go (Err e) = refl
+pieces_join t (p ∷ ps) last w =
     let h = w 0 [] (omega arith) in
-    ap (λ (r : _). and_then r (λ u. with_pieces u ps)) (whole t p h)
-    ∙ pieces_join (counted_all t (records_of p)) ps (λ k d l. w (suc k) d (omega (arith, l)))
-    ∙ sym (with_piece t p h (concat ps) ∙ ap (λ (r : _). and_then r (λ u. with_records u (concat ps))) (whole t p h))
+    ap (λ (r : Result Tally Refusal). and_then r (λ u. with_pieces u (ps ++ last ∷ []))) (whole t p h)
+    ∙ pieces_join (counted_all t (records_of p)) ps last (λ k d l. w (suc k) d (omega (arith, l)))
+    ∙ sym (ap (with_records t) (append_assoc p (concat ps) last) ∙ with_piece t p h (concat ps ++ last)
+    ∙ ap (λ (r : Result Tally Refusal). and_then r (λ u. with_records u (concat ps ++ last))) (whole t p h))

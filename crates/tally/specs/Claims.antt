@@ -1,18 +1,27 @@
 -- Document 02, change 1: what a tally says of the records of a list.
 -- Assumes nothing.
-use Rattle.std.specs.Prelude.{◌≡◌, ℕ, ◌/◌, ◌%◌, ◌^◌, ◌<◌, Bool, cond, ◌&&◌, eqb, ltb, List, [], ◌∷◌, length, slice_index, slice_index_or, Result, Ok, Err, All, sum, sum_by, count_by, filter}
+use Rattle.std.specs.Prelude.{◌≡◌, ℕ, ◌/◌, ◌%◌, ◌^◌, ◌<◌, Bool, cond, ◌&&◌, eqb, ltb, List, [], ◌∷◌, ◌++◌, length, slice_index, Result, Ok, Err, All, sum, sum_by, count_by, filter}
 use Rattle.std.specs.List.{concat}
 use Rattle.rules.specs.declared.Refusal.{Refusal}
 use Rattle.rules.specs.Record.{record_size}
+use Rattle.label.specs.declared.Label.{Label}
 use Rattle.label.specs.Words.{words}
-use Rattle.tally.specs.declared.Row.{Row}
+use Rattle.records.specs.declared.Fields.{Fields}
+use Rattle.records.specs.Record.{record_bytes}
+use Rattle.visible.specs.Shown.{shown_in}
 use Rattle.tally.specs.declared.Tally.{Tally}
-use Rattle.tally.specs.Tally.{caller_in, number_in, moved_in, no_row, records_of, with_records, tally_of}
+use Rattle.tally.specs.Tally.{caller_in, number_in, moved_in, row_at, no_records, counted_all, records_of, with_records, tally_of}
 
--- a row of a tally, and one of its counts
-abbrev pub row_at : Tally → ℕ → Row
-row_at t i = slice_index_or t.rows i no_row
+-- Of a record that the rules make, these bytes are the caller given, the number returned and the bytes moved
+abbrev pub BytesCounted : Type 0
+BytesCounted = (f : Fields) (number moved : ℕ) (need : Label) →
+    let r = record_bytes f number moved need in (caller_in r ≡ f.caller) × (number_in r ≡ number) × (moved_in r ≡ moved)
 
+-- What an audit shows is never refused: it has a tally
+abbrev pub AuditsTallied : Type 0
+AuditsTallied = (l : Label) (list : List ℕ) → tally_of (shown_in l list) ≡ Ok (counted_all no_records (records_of (shown_in l list)))
+
+-- a count of a tally
 abbrev pub count_at : Tally → ℕ → ℕ → ℕ
 count_at t i n = slice_index (row_at t i).counts n
 
@@ -26,12 +35,12 @@ in_count n r = cond (ltb n 18) (eqb (number_in r) n) (ltb 17 (number_in r))
 
 -- Each count is how many records of the list belong there, and each sum that of the bytes which the records of its row moved, modulo
 -- 2 to the 64
-pub record Counts (t : Tally) (rs : List (List ℕ)) : Type 0 where
+pub record Cells (t : Tally) (rs : List (List ℕ)) : Type 0 where
   pub counts : (i n : ℕ) → i < 33 → n < 19 → count_at t i n ≡ count_by (λ r. in_row i r && in_count n r) rs % 2 ^ 64
   pub bytes : (i : ℕ) → i < 33 → (row_at t i).bytes ≡ sum_by moved_in (filter (in_row i) rs) % 2 ^ 64
 
 abbrev pub CellsCount : Type 0
-CellsCount = (list : List ℕ) (t : Tally) → tally_of list ≡ Ok t → Counts t (records_of list)
+CellsCount = (list : List ℕ) (t : Tally) → tally_of list ≡ Ok t → Cells t (records_of list)
 
 -- All counts together are the number of records read, modulo 2 to the 64
 abbrev pub CountsTogether : Type 0
@@ -51,6 +60,6 @@ with_pieces t (p ∷ ps) = and_then (with_records t p) (λ u. with_pieces u ps)
 abbrev pub IsWhole : List ℕ → Type 0
 IsWhole list = length list % record_size words ≡ 0
 
--- Pieces of whole records, one after another, give the tally of the whole list
+-- Pieces of whole records, and a last one of any length, give what the whole list gives: its tally, or 12
 abbrev pub PiecesJoin : Type 0
-PiecesJoin = (t : Tally) (pieces : List (List ℕ)) → All IsWhole pieces → with_pieces t pieces ≡ with_records t (concat pieces)
+PiecesJoin = (t : Tally) (pieces : List (List ℕ)) (last : List ℕ) → All IsWhole pieces → with_pieces t (pieces ++ last ∷ []) ≡ with_records t (concat pieces ++ last)

@@ -9,43 +9,52 @@ use Rattle.label.specs.Words.{words}
 use Rattle.tally.specs.declared.Row.{Row}
 use Rattle.tally.specs.declared.Tally.{Tally}
 
--- of a record the caller, the number returned and the bytes moved: bytes 1, 3 and 4
+-- byte 1 of a record, the caller
 abbrev pub caller_in : List ℕ → ℕ
 caller_in r = slice_index r 1
 
+-- byte 3, the number returned
 abbrev pub number_in : List ℕ → ℕ
 number_in r = slice_index r 3
 
+-- byte 4, the bytes moved
 abbrev pub moved_in : List ℕ → ℕ
 moved_in r = slice_index r 4
 
--- its row: one for each caller from 0 to 31, and the last for all higher numbers; and its count: one for each number from 0 to 17,
--- and the last for all higher ones
+-- the row of a record: one for each caller from 0 to 31, and the last for all higher numbers
 abbrev pub row_of : List ℕ → ℕ
 row_of r = min (caller_in r) 32
 
+-- its count in that row: one for each number from 0 to 17, and the last for all higher ones
 abbrev pub count_of : List ℕ → ℕ
 count_of r = min (number_in r) 18
 
--- a row with one record more: one more in its count, and its bytes, both modulo 2 to the 64
+-- a row without records
+abbrev pub no_row : Row
+no_row = record { counts = replicate 19 0; bytes = 0 }
+
+-- a row with one record more: one more in its count, and its bytes in the sum, both modulo 2 to the 64
 abbrev pub row_with : Row → List ℕ → Row
 row_with w r = record {
   counts = set w.counts (count_of r) ((slice_index w.counts (count_of r) + 1) % 2 ^ 64);
   bytes = (w.bytes + moved_in r) % 2 ^ 64;
 }
 
-abbrev pub no_row : Row
-no_row = record { counts = replicate 19 0; bytes = 0 }
+-- a row of a tally
+abbrev pub row_at : Tally → ℕ → Row
+row_at t i = slice_index_or t.rows i no_row
 
--- a tally with one record more, with all records of some, one after another; and the tally of none
-abbrev pub counted : Tally → List ℕ → Tally
-counted t r = record { rows = set t.rows (row_of r) (row_with (slice_index_or t.rows (row_of r) no_row) r) }
-
-unfoldable pub counted_all : Tally → List (List ℕ) → Tally
-counted_all t rs = fold counted t rs
-
+-- the tally of no records
 abbrev pub no_records : Tally
 no_records = record { rows = replicate 33 no_row }
+
+-- a tally with one record more
+abbrev pub counted : Tally → List ℕ → Tally
+counted t r = record { rows = set t.rows (row_of r) (row_with (row_at t (row_of r)) r) }
+
+-- a tally with some records more, one after another
+unfoldable pub counted_all : Tally → List (List ℕ) → Tally
+counted_all t rs = fold counted t rs
 
 -- the records of a list, read from the front
 abbrev pub records_of : List ℕ → List (List ℕ)

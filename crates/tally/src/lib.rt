@@ -9,18 +9,23 @@ ghost use Rattle.tally.specs.Tally.{no_row, no_records, counted, with_records};
 use records::SIZE;
 use rules::Refusal;
 
-// The records of one caller: how many returned each number from 0 to 17, then how many a higher one; and the sum of the bytes moved.
-// All modulo 2 to the 64.
+// How many callers, and returned numbers, have a row and a count of their own: those below. All from there on share the last.
+pub const CALLERS: usize = 32;
+
+pub const NUMBERS: usize = 18;
+
+// A row: how many of its records carry each returned number from 0 to 17, then how many a higher one; and the sum of the bytes
+// moved. All modulo 2 to the 64.
 #[derive(Clone, Copy)]
 pub struct Row {
-    pub counts: [u64; 19],
+    pub counts: [u64; NUMBERS + 1],
     pub bytes: u64,
 }
 
 // A row for each caller from 0 to 31, then one for all higher numbers.
 #[derive(Clone, Copy)]
 pub struct Tally {
-    pub rows: [Row; 33],
+    pub rows: [Row; CALLERS + 1],
 }
 
 impl Tally {
@@ -29,10 +34,12 @@ impl Tally {
         ensures { result ≡ no_records }
     {
         let row = Row {
-            counts: [0; 19],
+            counts: [0; NUMBERS + 1],
             bytes: 0,
         };
-        Tally { rows: [row; 33] }
+        Tally {
+            rows: [row; CALLERS + 1],
+        }
     }
 
     // One record more.
@@ -40,8 +47,8 @@ impl Tally {
         requires { length entry.now ≡ record_size words }
         ensures { self.new ≡ counted self.old entry.now }
     {
-        let row = &mut self.rows[usize::from(entry[1]).min(32)];
-        let number = usize::from(entry[3]).min(18);
+        let row = &mut self.rows[usize::from(entry[1]).min(CALLERS)];
+        let number = usize::from(entry[3]).min(NUMBERS);
         row.counts[number] = row.counts[number].wrapping_add(1);
         row.bytes = row.bytes.wrapping_add(u64::from(entry[4]));
     }
