@@ -1,4 +1,3 @@
-mod Pages
+pub mod Pages
 mod Input
 pub mod Worked
-pub mod Refusals

@@ -1,11 +1,8 @@
--- Document 02, change 1: pages worked by hand, and what hubtally answers to a refusal in the place of records.
+-- Document 02, change 1: pages worked by hand.
 -- Assumes nothing.
-use Rattle.std.specs.Prelude.{◌≡◌, ℕ, ◌<◌, List, [], ◌∷◌, ◌++◌, replicate}
+use Rattle.std.specs.Prelude.{◌≡◌, ℕ, List, [], ◌∷◌, ◌++◌, replicate}
 use Prim.Native.String.{String}
-use Rattle.rules.specs.declared.Refusal.{Refusal}
-use Rattle.rules.specs.Numbers.{number}
 use Rattle.text.specs.Ascii.{ascii}
-use Rattle.print.specs.Lines.{refused_line, refused_audit}
 use Rattle.page.specs.Page.{page_output}
 
 abbrev pub names : List ℕ
@@ -40,9 +37,3 @@ pub record PagesWorked : Type 0 where
       names ++ ascii "0 2 0 0 0 0 0 0 0 0 0 0 0 0 0 0 0 0 0 0 319\n" ++ quiet "1" ++ quiet_2_to_30
       ++ ascii "31 0 0 0 0 0 0 0 0 0 0 0 0 0 0 0 0 0 1 1 1\n" ++ ascii "more 0 0 0 0 0 0 0 0 0 0 0 0 0 0 0 0 0 0 2 9\n"
   pub part : page_output (entry 0 0 64 ++ 4 ∷ []) ≡ ascii "refused 12\n"
-
--- The line of a refused text or audit, in the place of records, is refused by 12 and gives no page of zeros. A text of at most 65,535
--- bytes has fewer lines than 100,000
-pub record RefusalsRefused : Type 0 where
-  pub text : (e : Refusal) (line : ℕ) → line < 100000 → page_output (refused_line (number e) line) ≡ refused_audit 12
-  pub audit : (e : Refusal) → page_output (refused_audit (number e)) ≡ refused_audit 12

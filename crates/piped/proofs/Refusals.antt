@@ -1,6 +1,6 @@
 -- The line of a refusal is no whole number of records.
 -- Assumes nothing.
-use Rattle.std.proofs.Common.{◌≡◌, ◌≢◌, ◌<◌, ℕ, ◌%◌, List, ◌++◌, ◌∷◌, [], length, arith, ne_eqb}
+use Rattle.std.proofs.Common.{◌≡◌, ◌≢◌, ℕ, ◌^◌, ◌<◌, ◌%◌, List, ◌++◌, ◌∷◌, [], length, arith, ne_eqb}
 use Rattle.std.proofs.lemmas.List.{length-append}
 use Rattle.rules.specs.declared.Refusal.{Refusal}
 use Rattle.rules.specs.declared.Refusal.TheVariants.{NoProgram, OutOfRange, SlotFree, SlotTaken, TooLong, NoRoom, FlowForbidden, NotReleasable, OtherIsItem, NoRight, BreaksGroup, ListNotWhole, NoRoomForRecords, TextTooLong, BadLine, SlotTwice, EntityBreaksGroup, Formless}
@@ -10,7 +10,8 @@ use Rattle.print.specs.Lines.{refused_text, decimal_text, refused_line, refused_
 use Rattle.print.proofs.Laws.{decimal_some, decimal_few}
 use Rattle.tally.specs.Tally.{with_records}
 use Rattle.page.specs.Page.{page_output}
-use Rattle.page.specs.Claims.{RefusalsRefused}
+use Rattle.piped.specs.Claims.{RefusalsRefused}
+use Rattle.piped.proofs.Faults.{fault-line}
 
 not_whole : (list : List ℕ) → length list % 16 ≢ 0 → page_output list ≡ refused_audit 12
 unfolding with_records
@@ -36,13 +37,13 @@ two_digits SlotTwice = omega arith
 two_digits EntityBreaksGroup = omega arith
 two_digits Formless = omega arith
 
-pub refusals_refused : RefusalsRefused
-unfolding refused_line refused_audit
-refusals_refused = record {
-  text = λ e l q.
+-- one or two digits; one to six
+module _ (e : Refusal) where
+  line_not_whole : (l : ℕ) → l < 10 ^ 6 → length (refused_line (number e) l) % 16 ≢ 0
+  unfolding refused_line
+  line_not_whole l q z =
       let p = two_digits e in let a = decimal_text (number e) in let b = decimal_text l in
-      not_whole (refused_line (number e) l) (λ z.
-      absurd (omega (
+      omega (
         arith,
         z,
         length-append refused_text (a ++ (ascii " line " ++ (b ++ (10 ∷ [])))),
@@ -51,9 +52,17 @@ refusals_refused = record {
         decimal_some (number e) (omega arith),
         decimal_few 2 (number e) (omega arith) (omega arith) (omega arith),
         decimal_some l (omega arith),
-        decimal_few 5 l (omega arith) (omega arith) (omega arith),
-      )));
-  audit = λ e.
+        decimal_few 6 l (omega arith) (omega arith) (omega arith),
+      )
+
+  audit_not_whole : length (refused_audit (number e)) % 16 ≢ 0
+  unfolding refused_audit
+  audit_not_whole z =
       let p = two_digits e in let a = decimal_text (number e) in
-      not_whole (refused_audit (number e)) (λ z. absurd (omega (arith, z, length-append a (10 ∷ []), decimal_some (number e) (omega arith), decimal_few 2 (number e) (omega arith) (omega arith) (omega arith))));
+      omega (arith, z, length-append a (10 ∷ []), decimal_some (number e) (omega arith), decimal_few 2 (number e) (omega arith) (omega arith) (omega arith))
+
+pub refusals_refused : RefusalsRefused
+refusals_refused = record {
+  text = λ text f e. not_whole (refused_line (number f.refusal) f.line) (line_not_whole f.refusal f.line (fault-line text f e));
+  audit = λ e. not_whole (refused_audit (number e)) (audit_not_whole e);
 }

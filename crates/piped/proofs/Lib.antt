@@ -1,0 +1,2 @@
+mod Faults
+pub mod Refusals
