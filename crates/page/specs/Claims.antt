@@ -30,6 +30,7 @@ watering = entry 1 7 0 ++ entry 1 0 0 ++ entry 1 0 2 ++ entry 1 0 2 ++ entry 1 7
 abbrev pub edges : List ℕ
 edges = entry 0 0 64 ++ entry 0 0 255 ++ entry 31 17 1 ++ entry 31 18 0 ++ entry 32 99 0 ++ entry 255 255 9
 
+-- Byte for byte, what is printed for no records, for the round's, for those at the edges, and for a record and a byte more
 pub record PagesWorked : Type 0 where
   pub none : page_output [] ≡ names ++ quiet "0" ++ quiet "1" ++ quiet_2_to_30 ++ quiet "31" ++ quiet "more"
   pub round : page_output watering ≡ names ++ quiet "0" ++ ascii "1 3 0 0 0 0 0 0 2 0 0 1 0 0 0 0 0 0 0 0 4\n" ++ quiet_2_to_30 ++ quiet "31" ++ quiet "more"

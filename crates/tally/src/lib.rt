@@ -4,14 +4,15 @@
 ghost use Rattle.std.specs.Prelude.{◌≡◌, length};
 ghost use Rattle.rules.specs.Record.{record_size};
 ghost use Rattle.label.specs.Words.{words};
-ghost use Rattle.tally.specs.Tally.{no_row, no_records, counted, with_records};
+ghost use Rattle.tally.specs.Tally.{no_records, counted, with_records};
 
 use records::SIZE;
 use rules::Refusal;
 
-// How many callers, and returned numbers, have a row and a count of their own: those below. All from there on share the last.
+// How many callers have a row of their own: those below. All from there on share the last.
 pub const CALLERS: usize = 32;
 
+// How many returned numbers have a count of their own, likewise.
 pub const NUMBERS: usize = 18;
 
 // A row: how many of its records carry each returned number from 0 to 17, then how many a higher one; and the sum of the bytes
