@@ -6,6 +6,7 @@ ghost use Rattle.load.specs.Load.{load_of};
 
 use monitor::Table;
 use std::io;
+use stdio::Input;
 
 // How a program writes records: in hexadecimal, a line each, or as they are, for another program to read.
 #[derive(Clone, Copy)]
@@ -35,7 +36,7 @@ pub fn read_text<'a>(rt: &HostRuntime, buf: &'a mut [u8], format: Format) -> Opt
     ensures verdict { IfSome result (λ r. (load_of r.text.now).verdict ≡ Ok tt) }
     ensures table { IfSome result (λ r. r.table ≡ (load_of r.text.now).table) }
 {
-    let Ok(n) = stdio::fill(&mut rt.stdin(), buf) else {
+    let Ok(n) = Input::new(rt.stdin()).fill(buf) else {
         stdio::tell_unread(rt);
         return None;
     };

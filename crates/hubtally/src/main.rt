@@ -2,12 +2,14 @@
 // number of records.
 #![tactic(auto)]
 
+use stdio::Input;
+
 fn main(rt: HostRuntime) {
     if stdio::has_argument(&rt, 1) {
         stdio::tell(&rt, b"usage: hubtally <RECORDS\n");
         return;
     }
-    let Ok(page) = page::output(&mut rt.stdin()) else {
+    let Ok(page) = page::output(&mut Input::new(rt.stdin())) else {
         stdio::tell_unread(&rt);
         return;
     };

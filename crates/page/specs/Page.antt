@@ -1,6 +1,6 @@
 -- Document 02, change 1: the page that hubtally prints.
 -- Assumes nothing.
-use Rattle.std.specs.Prelude.{ℕ, ◌+◌, ◌*◌, cond, ltb, List, [], ◌∷◌, ◌++◌, Result, Ok, Err}
+use Rattle.std.specs.Prelude.{ℕ, ◌+◌, ◌*◌, ◌^◌, ◌<◌, cond, ltb, List, [], ◌∷◌, ◌++◌, length, Option, None, Some, Result, Ok, Err, ⊤}
 use Rattle.std.specs.List.{flat_map, range_with_len}
 use Rattle.rules.specs.declared.Refusal.{Refusal}
 use Rattle.rules.specs.Numbers.{number}
@@ -43,6 +43,11 @@ page_or_refusal (Err e) = refused_audit (number e)
 -- what hubtally has to print for an input
 abbrev pub page_output : List ℕ → List ℕ
 page_output list = page_or_refusal (tally_of list)
+
+-- an input, where its bytes are known, is longer than 2 to the 79: more than the program reads
+abbrev pub IsTooLong : Option (List ℕ) → Type 0
+IsTooLong None = ⊤
+IsTooLong (Some list) = 2 ^ 79 < length list
 
 -- a row has at most 425 bytes, and a page 80 of names and 33 rows
 abbrev pub row_size : ℕ

@@ -1,17 +1,19 @@
 // What hubtally prints: the page of a tally, a line of names and a line for each row; and of an input, tallied.
 #![tactic(auto)]
 
-ghost use Rattle.std.specs.Prelude.{◌≡◌, ◌*◌, ◌≤◌, length, IfOk, IfSome};
+ghost use Rattle.std.specs.Prelude.{◌≡◌, ◌⊎◌, ◌*◌, ◌≤◌, length, true, IfOk, IfSome, OnErr};
 ghost use Rattle.std.specs.List.{flat_map};
+ghost use Rattle.stdio.specs.Input.{reader_of, has_failed};
 ghost use Rattle.print.specs.Lines.{line_with};
 ghost use Rattle.tally.specs.Tally.{tally_of};
-ghost use Rattle.page.specs.Page.{caller_text, cell, row_line, row_size, page_size, page_of, page_or_refusal, page_output};
+ghost use Rattle.page.specs.Page.{caller_text, cell, row_line, row_size, page_size, page_of, page_or_refusal, page_output, IsTooLong};
 
 use arrayvec::ArrayVec;
 use records::SIZE;
 use rules::Refusal;
 use std::io;
 use std::io::{ErrorKind, Read};
+use stdio::Input;
 use tally::{CALLERS, Row, Tally};
 
 // A page: the names take 80 bytes, and a row at most 425, a word of 4, a space and 20 digits for each of 20 numbers, and byte 10.
@@ -94,16 +96,16 @@ fn page_or_refusal(tallied: &Result<Tally, Refusal>) -> Page
 // How many bytes are read at a time: whole records, so that none stands in two buffers.
 const BUFFER: usize = 4096 * SIZE;
 
-// The tally of all that an input gives, a buffer at a time. Where a read fails there is none; that it fails is no fact of the logic,
-// so no clause says when.
-fn tally_input<R: Read>(input: &mut R) -> io::Result<Result<Tally, Refusal>>
-    ensures { IfOk result (λ tallied. IfSome (R.remaining input.old) (λ list. tallied ≡ tally_of list)) }
+// The tally of all that an input gives, a buffer at a time. An error where a read failed.
+fn tally_input<R: Read>(input: &mut Input<R>) -> io::Result<Result<Tally, Refusal>>
+    ensures tallied { IfOk result (λ tallied. IfSome (R.remaining (reader_of input.old)) (λ list. tallied ≡ tally_of list)) }
+    ensures failed { OnErr result ((has_failed input.new ≡ true) ⊎ IsTooLong (R.remaining (reader_of input.old))) }
 {
     let mut buf = [0u8; BUFFER];
     let mut tally = Tally::new();
     // A loop has to end, so its turns are counted.
     for _ in 0..u64::MAX {
-        let n = stdio::fill(input, &mut buf)?;
+        let n = input.fill(&mut buf)?;
         let tallied = tally.with_records(handing::front(&buf, n));
         if n < buf.len() {
             return Ok(tallied);
@@ -117,9 +119,10 @@ fn tally_input<R: Read>(input: &mut R) -> io::Result<Result<Tally, Refusal>>
     Err(io::Error::from(ErrorKind::FileTooLarge))
 }
 
-// What hubtally prints for an input: the page of the records that it gives, or the refusal by 12. Nothing where a read fails.
-pub fn output<R: Read>(input: &mut R) -> io::Result<Page>
-    ensures { IfOk result (λ page. IfSome (R.remaining input.old) (λ list. page.items ≡ page_output list)) }
+// What hubtally prints for an input: the page of the records that it gives, or the refusal by 12. An error where a read failed.
+pub fn output<R: Read>(input: &mut Input<R>) -> io::Result<Page>
+    ensures page { IfOk result (λ page. IfSome (R.remaining (reader_of input.old)) (λ list. page.items ≡ page_output list)) }
+    ensures failed { OnErr result ((has_failed input.new ≡ true) ⊎ IsTooLong (R.remaining (reader_of input.old))) }
 {
     Ok(page_or_refusal(&tally_input(input)?))
 }

@@ -4,8 +4,9 @@
 // it counts as failed: the programs catch no signal, so none does.
 #![tactic(auto)]
 
-ghost use Rattle.std.specs.Prelude.{◌<◌, ◌≤◌, length, take, IfOk};
+ghost use Rattle.std.specs.Prelude.{◌≡◌, ◌<◌, ◌≤◌, length, take, true, IfOk, OnErr};
 ghost use Rattle.std.specs.Io.KnownBytes.{Consumes, IsAtEnd};
+ghost use Rattle.stdio.specs.Input.{reader_of, has_failed, input_of};
 
 use std::env::{Env, FillError};
 use std::io;
@@ -16,23 +17,45 @@ pub fn has_argument(rt: &HostRuntime, at: usize) -> bool {
     !matches!(rt.arg(at, &mut [0u8; 1]), Err(FillError::NotPresent))
 }
 
-// Reads an input into a buffer until that is full, the input ends or a read fails. Answers how many of the buffer's bytes it
-// filled: all of them where the buffer is full, and more may come; fewer only where the input has ended.
-pub fn fill<R: Read>(input: &mut R, buf: &mut [u8]) -> io::Result<usize>
-    ensures bytes { IfOk result (λ n. Consumes (R.remaining input.old) (R.remaining input.new) (take n buf.new)) }
-    ensures within { IfOk result (λ n. n ≤ length buf.new) }
-    ensures whole { IfOk result (λ n. n < length buf.new → IsAtEnd (R.remaining input.new)) }
-{
-    let mut done = 0;
-    // No method of Read goes on to the end of an input in a buffer that may be longer or shorter.
-    while done < buf.len() {
-        let n = input.read(&mut buf[done..])?;
-        if n == 0 {
-            return Ok(done);
+// A reader, and whether a read of it has failed.
+#[derive(Drop)]
+pub struct Input<R> {
+    reader: R,
+    failed: bool,
+}
+
+impl<R: Read> Input<R> {
+    pub fn new(reader: R) -> Input<R>
+        ensures { result ≡ input_of reader }
+    {
+        Input {
+            reader,
+            failed: false,
         }
-        done += n;
     }
-    Ok(done)
+
+    // Reads into a buffer until that is full, the input ends or a read fails. Answers how many of the buffer's bytes it filled: all
+    // of them where the buffer is full, and more may come; fewer only where the input has ended.
+    pub fn fill(&mut self, buf: &mut [u8]) -> io::Result<usize>
+        ensures bytes { IfOk result (λ n. Consumes (R.remaining (reader_of self.old)) (R.remaining (reader_of self.new)) (take n buf.new)) }
+        ensures within { IfOk result (λ n. n ≤ length buf.new) }
+        ensures whole { IfOk result (λ n. n < length buf.new → IsAtEnd (R.remaining (reader_of self.new))) }
+        ensures failed { OnErr result (has_failed self.new ≡ true) }
+    {
+        let mut done = 0;
+        // No method of Read goes on to the end of an input in a buffer that may be longer or shorter.
+        while done < buf.len() {
+            match self.reader.read(&mut buf[done..]) {
+                Ok(0) => return Ok(done),
+                Ok(n) => done += n,
+                Err(error) => {
+                    self.failed = true;
+                    return Err(error);
+                }
+            }
+        }
+        Ok(done)
+    }
 }
 
 // A line on standard error.

@@ -1,23 +1,23 @@
-use Rattle.std.proofs.Common.{◌≡◌, ◌∙◌, ap, sym, length, rules, arith, length-take-le}
+use Rattle.std.proofs.Common.{◌≡◌, ◌∙◌, inr, ap, sym, length, rules, arith, length-take-le}
 use Rattle.tally.specs.Claims.{IsWhole}
 use Rattle.tally.proofs.Pieces.{whole}
-use Rattle.page.proofs.Input.{all_left, left_more, left_none}
+use Rattle.page.proofs.Input.{all_left, left_more, left_none, left_beyond}
 use Rattle.page.proofs.tally_input.Goals as goal
 
 pub loop-init : goal.loop-init
 loop-init g c = record {
   size = search rules;
-  left = rw c.new-tally.ensures (all_left (g.R.Read.remaining c.args.input.now));
+  left = rw c.new-tally.ensures (all_left (g.R.Read.remaining c.args.input.now.reader));
 }
 
 pub loop-preserved : goal.loop-preserved
 loop-preserved g c =
     let s = c.in_ok-n.ensures in let bs = c.front.result.now in
     let size : length c.fill.new.buf ≡ 65536 = c.fill.auto.buf ∙ c.loop.invariant.size in
-    let w : IsWhole bs = omega (arith, ap length c.front.ensures.0, length-take-le c.in_ok-n.n c.fill.new.buf s.within, s.within) in
+    let w : length bs ≡ 65536 = omega (arith, ap length c.front.ensures.0, length-take-le c.in_ok-n.n c.fill.new.buf s.within, s.within) in
     record {
       size = size;
-      left = left_more _ _ _ c.loop.tally c.in-Ok.more bs c.loop.invariant.left (rw c.front.ensures.0 s.bytes) w (sym c.with_records-tallied.ensures ∙ c.in-Ok.is);
+      left = left_more _ _ _ c.loop.tally c.in-Ok.more c.loop.counter bs c.loop.invariant.left (rw c.front.ensures.0 s.bytes) w (sym c.with_records-tallied.ensures ∙ c.in-Ok.is);
     }
 
 pub returns-in_default : goal.returns-in_default
@@ -27,8 +27,11 @@ returns-in_default g c =
     let w : IsWhole bs = omega (arith, ap length c.front.ensures.0, length-take-le c.in_ok-n.n c.fill.new.buf s.within, s.within) in
     absurd (c.in_default.not-Ok _ (c.with_records-tallied.ensures ∙ whole c.loop.tally bs w))
 
-pub returns-then-n-lt65536 : goal.returns-then-n-lt65536
-returns-then-n-lt65536 g c =
+pub returns-then-n-lt65536-clause-tallied : goal.returns-then-n-lt65536-clause-tallied
+returns-then-n-lt65536-clause-tallied g c =
     let s = c.in_ok-n.ensures in let bs = c.front.result.now in
     let size : length c.fill.new.buf ≡ 65536 = c.fill.auto.buf ∙ c.loop.invariant.size in
-    rw c.with_records-tallied.ensures (left_none _ _ _ c.loop.tally bs c.loop.invariant.left (rw c.front.ensures.0 s.bytes) (s.whole (omega (arith, size))))
+    rw c.with_records-tallied.ensures (left_none _ _ _ c.loop.tally c.loop.counter bs c.loop.invariant.left (rw c.front.ensures.0 s.bytes) (s.whole (omega (arith, size))))
+
+pub returns-clause-failed : goal.returns-clause-failed
+returns-clause-failed g c = inr (left_beyond _ _ c.loop.tally c.loop.counter c.loop.invariant.left (omega arith))

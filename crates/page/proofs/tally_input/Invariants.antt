@@ -8,5 +8,5 @@ use Rattle.page.proofs.tally_input.Given as goal
 abbrev pub invariant-loop : goal.invariant-loop
 invariant-loop g l = record {
   size : length l.buf ≡ 65536;
-  left : Left (g.R.Read.remaining l.initial.input) (g.R.Read.remaining l.input) l.tally;
+  left : Left (g.R.Read.remaining l.initial.input.reader) (g.R.Read.remaining l.input.reader) l.tally l.counter;
 }

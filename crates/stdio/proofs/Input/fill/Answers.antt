@@ -1,10 +1,10 @@
 use Rattle.std.proofs.Common.{rules, arith, length, take, ◌-◌}
 use Rattle.stdio.proofs.Consumed.{consumes_more, filled_more}
-use Rattle.stdio.proofs.fill.Goals as goal
+use Rattle.stdio.proofs.Input.fill.Goals as goal
 
 pub loop-done-preserved : goal.loop-done-preserved
 loop-done-preserved g c =
-    let l = c.loop-done in let n = c.in_ok-n.n in let bs = c.read.new.buf in let s = c.in_ok-n.ensures in
+    let l = c.loop-done in let n = c.in-Ok.n in let bs = c.read.new.buf in let s = c.in-Ok.ensures in
     record {
       size = search rules;
       within = search (rules, arith);
