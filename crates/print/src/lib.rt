@@ -34,16 +34,16 @@ fn digit_text(n: u8) -> u8
 }
 
 // Neither this nor a whole line is written by a Display: no clause of write! says when it succeeds, and a push always does.
-fn push_hex(line: &mut Line, src: &[u8])
-    ensures { line.new.items ≡ line_with line_size line.old.items (hex_text src.now) }
+fn push_hex<const N: usize>(line: &mut ArrayVec<u8, N>, src: &[u8])
+    ensures { line.new.items ≡ line_with N line.old.items (hex_text src.now) }
 {
     for b in src {
         push_bytes(line, &[digit_text(*b / 16), digit_text(*b % 16)]);
     }
 }
 
-fn push_data(line: &mut Line, src: &[u8])
-    ensures { line.new.items ≡ line_with line_size line.old.items (data_text src.now) }
+fn push_data<const N: usize>(line: &mut ArrayVec<u8, N>, src: &[u8])
+    ensures { line.new.items ≡ line_with N line.old.items (data_text src.now) }
 {
     if src.is_empty() {
         push_bytes(line, b"-");
