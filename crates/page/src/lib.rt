@@ -30,6 +30,7 @@ fn push_cell(page: &mut Page, n: u64)
 }
 
 // Numbers, each behind a space.
+#[tactic(auto, using(crate::proofs::Pages::cells_more, crate::proofs::Pages::cells_all, crate::proofs::Pages::cells_short))]
 fn push_cells(page: &mut Page, numbers: &[u64])
     ensures short { length (flat_map cell numbers.now) ≤ length numbers.now * 21 }
     ensures text { page.new.items ≡ line_with page_size page.old.items (flat_map cell numbers.now) }
@@ -53,6 +54,7 @@ fn push_caller(page: &mut Page, caller: usize)
 }
 
 // The line of a row.
+#[tactic(auto, using(crate::proofs::Pages::row_of_parts, crate::proofs::Pages::row_short))]
 fn push_row(page: &mut Page, caller: usize, row: &Row)
     ensures short { length (row_line caller row.now) ≤ row_size }
     ensures text { page.new.items ≡ line_with page_size page.old.items (row_line caller row.now) }
@@ -64,6 +66,7 @@ fn push_row(page: &mut Page, caller: usize, row: &Row)
 }
 
 // The page of a tally.
+#[tactic(auto, using(crate::proofs::Pages::all_rows))]
 pub fn page_of(tally: &Tally) -> Page
     ensures { result.items ≡ page_of tally.now }
 {
@@ -97,6 +100,7 @@ fn page_or_refusal(tallied: &Result<Tally, Refusal>) -> Page
 const BUFFER: usize = 4096 * SIZE;
 
 // The tally of all that an input gives, a buffer at a time. An error where a read failed.
+#[tactic(auto, using(crate::proofs::Input::all_left, crate::proofs::Input::left_none, crate::proofs::Input::left_beyond))]
 fn tally_input<R: Read>(input: &mut Input<R>) -> io::Result<Result<Tally, Refusal>>
     ensures tallied { IfOk result (λ tallied. IfSome (R.remaining (reader_of input.old)) (λ list. tallied ≡ tally_of list)) }
     ensures failed { OnErr result ((has_failed input.new ≡ true) ⊎ IsTooLong (R.remaining (reader_of input.old))) }

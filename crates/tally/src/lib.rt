@@ -55,6 +55,7 @@ impl Tally {
     }
 
     // The tally with the records of a list, read from the front. A list that is no whole number of records is refused by 12.
+    #[tactic(auto, unfolding(crate::specs::Tally::with_records), using(crate::proofs::Counting::counted_none))]
     pub fn with_records(mut self, list: &[u8]) -> Result<Tally, Refusal>
         ensures { result ≡ with_records self list.now }
     {

@@ -1,14 +1,8 @@
-use Rattle.std.proofs.Common.{◌≡◌, ◌∙◌, inr, ap, sym, length, rules, arith, length-take-le}
+use Rattle.std.proofs.Common.{◌≡◌, ◌∙◌, ap, sym, length, arith, length-take-le}
 use Rattle.tally.specs.Claims.{IsWhole}
 use Rattle.tally.proofs.Pieces.{whole}
-use Rattle.page.proofs.Input.{all_left, left_more, left_none, left_beyond}
+use Rattle.page.proofs.Input.{left_more}
 use Rattle.page.proofs.tally_input.Goals as goal
-
-pub loop-init : goal.loop-init
-loop-init g c = record {
-  size = search rules;
-  left = rw c.new-tally.ensures (all_left (g.R.Read.remaining c.args.input.now.reader));
-}
 
 pub loop-preserved : goal.loop-preserved
 loop-preserved g c =
@@ -26,12 +20,3 @@ returns-in_default g c =
     let size : length c.fill.new.buf ≡ 65536 = c.fill.auto.buf ∙ c.loop.invariant.size in
     let w : IsWhole bs = omega (arith, ap length c.front.ensures.0, length-take-le c.in_ok-n.n c.fill.new.buf s.within, s.within) in
     absurd (c.in_default.not-Ok _ (c.with_records-tallied.ensures ∙ whole c.loop.tally bs w))
-
-pub returns-then-n-lt65536-clause-tallied : goal.returns-then-n-lt65536-clause-tallied
-returns-then-n-lt65536-clause-tallied g c =
-    let s = c.in_ok-n.ensures in let bs = c.front.result.now in
-    let size : length c.fill.new.buf ≡ 65536 = c.fill.auto.buf ∙ c.loop.invariant.size in
-    rw c.with_records-tallied.ensures (left_none _ _ _ c.loop.tally c.loop.counter bs c.loop.invariant.left (rw c.front.ensures.0 s.bytes) (s.whole (omega (arith, size))))
-
-pub returns-clause-failed : goal.returns-clause-failed
-returns-clause-failed g c = inr (left_beyond _ _ c.loop.tally c.loop.counter c.loop.invariant.left (omega arith))
