@@ -102,8 +102,9 @@ struct hub_table {
  *     byte 5       the tag, 255 where the call has none
  *     byte 6       the set field, 255 where the call has none
  *     byte 7       0
- *     bytes 8-15   the need, least byte first: the secrecy tags that an auditor must bear to be shown this record,
- *                  none where the number is 1 or 99
+ *     bytes 8-15   the need, least byte first: the secrecy tags that an auditor must bear to be shown this record. Where
+ *                  the number is 1 these are the S of the item in the caller's slot, or none if that slot is free or
+ *                  above 31; where it is 99, none
  * The records of all calls in their order, refused ones too, are the list that hub_audit takes.
  */
 struct hub_reply {

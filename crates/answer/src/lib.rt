@@ -2,13 +2,16 @@
 #![tactic(auto)]
 
 ghost use Rattle.std.specs.Prelude.{◌≡◌, []};
+ghost use Rattle.rules.specs.Record.{need_by};
 ghost use Rattle.label.specs.Calls.{call_with};
+ghost use Rattle.label.specs.Words.{words};
 ghost use Rattle.records.specs.Record.{fields_given};
 ghost use Rattle.answer.specs.Answered.{answered_by};
 
 use decide::Seen;
 use entity::Entity;
-use rules::{Call, Refusal};
+use label::Label;
+use rules::{Call, Kind, Refusal};
 
 // What a call comes to: its outcome, and its record.
 #[derive(Clone, Copy)]
@@ -27,6 +30,17 @@ pub struct Effect {
     pub moved: usize,
 }
 
+// The need by the caller's kind, where `was` and `is` are its S before and after the call and `other` is the other's.
+fn need_by(kind: Kind, was: Label, is: Label, other: Label) -> Label
+    ensures { result ≡ need_by words kind was is other }
+{
+    match kind {
+        Kind::Free => label::empty(),
+        Kind::Item => was,
+        Kind::Program => label::union(label::union(was, is), other),
+    }
+}
+
 // The answer to a call, by what it saw, its outcome and its effect.
 pub fn answer_of(call: Call, seen: Seen, v: Result<(), Refusal>, x: Effect) -> Answer
     ensures { result ≡ answered_by (fields_given (call_with call [] [])) seen v x }
@@ -34,8 +48,8 @@ pub fn answer_of(call: Call, seen: Seen, v: Result<(), Refusal>, x: Effect) -> A
     let f = records::fields_of(call);
     let own = v.is_ok() & (f.caller == x.slot);
     let is = label::choose(own, x.entity.sec, seen.caller.sec);
-    let all = label::union(label::union(seen.caller.sec, is), seen.other.sec);
-    let need = label::choose(seen.formed & seen.caller.is_program(), all, label::empty());
+    let all = need_by(seen.caller.kind, seen.caller.sec, is, seen.other.sec);
+    let need = label::choose(seen.formed, all, label::empty());
     Answer {
         outcome: v,
         entry: records::record_of(

@@ -10,7 +10,7 @@ use Rattle.rules.specs.Bounded.{all_below}
 use Rattle.rules.specs.Table.{Slot, Tables, Plain, plain, free, slot_formed, slot_keeps, accepted}
 use Rattle.rules.specs.Calls.{Call}
 use Rattle.rules.specs.Refusals.{number_of, verdict, step}
-use Rattle.rules.specs.Record.{answer, audit, records_in, shown_of}
+use Rattle.rules.specs.Record.{answer, Audit, audit, records_in, shown_of}
 use Rattle.rules.specs.Runs.{final, records}
 use Rattle.rules.specs.ByNumber.{passing}
 use Rattle.rules.proofs.Facts.{and_left}
@@ -20,7 +20,7 @@ use Rattle.label.specs.Tags.{tag_of, set_of, sum_of, subset_in, equal_in, union_
 use Rattle.label.specs.Words.{words}
 use Rattle.label.proofs.Words.{words_order}
 use Rattle.cases.specs.Cases.{Small, table_of, Case, cases, given, turned_down, CasesHold, EachOccurs}
-use Rattle.cases.specs.Rounds.{Line, calls_made, told, turns, expected, round_table, round, second_table, second, watched_table, Holds, RoundHolds, SecondHolds, AuditsHold}
+use Rattle.cases.specs.Rounds.{Line, calls_made, told, turns, expected, round_table, round, second_table, second, probe_table, probe, watched_table, Holds, RoundHolds, SecondHolds, ProbeHolds, AuditsHold}
 use Rattle.cases.proofs.Sure.{sure, end, round_sure, round_told, round_audit}
 
 -- what the cases and rounds are computed with
@@ -75,6 +75,10 @@ second-plays : turns (sure (plain words)) second_table second ≡ expected secon
 unfolding computed
 second-plays = refl
 
+probe_plays : turns (sure (plain words)) probe_table probe ≡ expected probe_table probe
+unfolding computed
+probe_plays = refl
+
 watched_plays : turns (sure (plain words)) watched_table round ≡ expected watched_table round
 unfolding computed
 watched_plays = refl
@@ -92,6 +96,10 @@ pub second_holds : SecondHolds
 unfolding computed
 second_holds = holds second_table second refl second-plays
 
+pub probe_holds : ProbeHolds
+unfolding computed
+probe_holds = holds probe_table probe refl probe_plays
+
 -- the audit of a round that holds
 of_round : {t : Plain words} {ls : List (Line (Plain words))} → Holds t ls → (i : ℕ) (buf : List ℕ)
     → audit (plain words) (final (step (plain words)) t (calls_made ls)) i (records (plain words) t (calls_made ls)) buf ≡ audit (sure (plain words)) (end t ls) i (told (λ l. l.entry) ls) buf
@@ -104,6 +112,9 @@ audits_hold = record {
   short = of_round round_holds 1 (replicate 95 0xee);
   item = of_round round_holds 2 (replicate 98 0xee);
   without = of_round (holds watched_table round refl watched_plays) 3 [];
-  some = of_round second_holds 0 (replicate 64 0xee);
-  some_short = of_round second_holds 0 (replicate 63 0xee);
+  some = of_round second_holds 0 (replicate 48 0xee);
+  some_short = of_round second_holds 0 (replicate 47 0xee);
+  probe_without = of_round probe_holds 1 (replicate 48 0xee);
+  probe_short = of_round probe_holds 0 (replicate 207 0xee);
+  probe_all = ap (λ (a : Audit). a.part) (of_round probe_holds 0 (replicate 208 0xee));
 }

@@ -2,7 +2,7 @@
 -- Assumes nothing.
 use Prim.Native.Nat.{ℕ, ◌<◌}
 use Rattle.rules.specs.Table.{plain}
-use Rattle.rules.specs.Claims.{RefusalsMoveNothing, RefusedAuditsMoveNothing, PartsFit, StaysAccepted, RecordsShow, Secrecy, SecrecyUndropped}
+use Rattle.rules.specs.Claims.{RefusalsMoveNothing, RefusedAuditsMoveNothing, PartsFit, StaysAccepted, RecordsShow, Secrecy, SecrecyOfPrograms, SecrecyUndropped}
 use Rattle.rules.specs.Effects.{CallsLeave}
 use Rattle.rules.specs.Audits.{RunsAudited}
 use Rattle.rules.proofs.Refused.{refusals_move_nothing, refused_audits_move_nothing, parts_fit}
@@ -10,7 +10,7 @@ use Rattle.rules.proofs.Groups.{stays_accepted}
 use Rattle.rules.proofs.Shows.{records_show}
 use Rattle.rules.proofs.Effects.{calls_leave}
 use Rattle.rules.proofs.Audits.{runs_audited}
-use Rattle.rules.proofs.Secrecy.{secrecy, secrecy_undropped}
+use Rattle.rules.proofs.Secrecy.{secrecy, secrecy_of_programs, secrecy_undropped}
 use Rattle.rules.proofs.Plain.{plain_laws}
 use Rattle.label.specs.Words.{words}
 use Rattle.label.proofs.Words.{words_order, words_tag}
@@ -32,6 +32,9 @@ words-show = records_show words_order (plain words)
 
 pub words-secrecy : (p : ℕ) → p < 64 → Secrecy (plain words) p
 words-secrecy p l = secrecy p (words_tag p l) words_order (plain words) (plain_laws words)
+
+pub words_programs : (p : ℕ) → p < 64 → SecrecyOfPrograms (plain words) p
+words_programs p l = secrecy_of_programs p (words_tag p l) words_order (plain words) (plain_laws words)
 
 pub words_undropped : (p : ℕ) → p < 64 → SecrecyUndropped (plain words) p
 words_undropped p l = secrecy_undropped p (words_tag p l) words_order (plain words) (plain_laws words)

@@ -1,4 +1,4 @@
--- 'Two runs' at the watering round.
+-- 'Two runs' at the watering round and the probe's.
 -- Assumes nothing.
 use mathlib.Core.Path.{◌≡◌, refl, sym, ◌∙◌}
 use mathlib.Core.Bool.{Bool, true, false, cond, false≢true}
@@ -8,12 +8,12 @@ use lib.Dec.{ltb, eqb}
 use Rattle.rules.specs.Table.{Slot, plain, free, at, accepted}
 use Rattle.rules.specs.Calls.{fetch, add_tag, drop_tag}
 use Rattle.rules.specs.Refusals.{step}
-use Rattle.rules.specs.Runs.{bears, hidden_at, kept, struck, SlotsAgree}
+use Rattle.rules.specs.Runs.{bears, hidden_at, kept, struck, struck_of_programs, SlotsAgree}
 use Rattle.rules.proofs.Facts.{either}
 use Rattle.rules.proofs.Plain.{plain_laws}
 use Rattle.label.specs.Tags.{tag_of, empty, has_tag}
 use Rattle.label.specs.Words.{words}
-use Rattle.cases.specs.Rounds.{calls_made, round_table, round, other_table, longer, TwoRunsHold}
+use Rattle.cases.specs.Rounds.{calls_made, round_table, round, probe_table, probe, other_table, longer, TwoRunsHold}
 use Rattle.cases.proofs.Sure.{kept_sure}
 use Rattle.cases.proofs.Cases.{computed}
 
@@ -63,8 +63,12 @@ unfolding computed
 hidden_are = refl
 
 pub two_runs_hold : TwoRunsHold
+unfolding computed
 two_runs_hold = record {
-  kept = round-kept;
+  of_programs = round-kept;
+  of_items = kept_sure (plain words) (plain_laws words) (struck (plain words) (bears words 9)) probe_table (calls_made probe) refl;
+  letter_of_programs = kept_sure (plain words) (plain_laws words) (struck_of_programs (plain words) (bears words 0)) round_table (calls_made round) refl;
+  letter_of_items = kept_sure (plain words) (plain_laws words) (struck_of_programs (plain words) (bears words 9)) probe_table (calls_made probe) refl;
   hidden = hidden_are;
   answered = λ c h. rw h;
   premise = record { left = round-accepted; right = other-accepted; undroppable = λ i p. undroppable i; tables = record { slots = agree; groups = refl }; calls = round-kept ∙ sym other-kept };

@@ -1,7 +1,8 @@
--- Rounds worked by hand: document 01's watering round, and a second one with calls and refusals that it lacks, put, an allowed drop,
--- create, release, hand, 1, 3, 4, 8 and 9. Each call with its whole record and the slot that it leaves; and audits at the end.
+-- Rounds worked by hand: document 01's watering round, a second one with calls and refusals that it lacks, put, an allowed drop,
+-- create, release, hand, 1, 3, 4, 8 and 9, and one in which items are named as callers. Each call with its whole record and the slot
+-- that it leaves; and audits at the end.
 -- Assumes nothing.
-use Rattle.std.specs.Prelude.{◌≡◌, true, false, cond, List, [], ◌∷◌, ◌++◌, map, ℕ, eqb, replicate, Ok, Err}
+use Rattle.std.specs.Prelude.{◌≡◌, true, false, cond, List, [], ◌∷◌, ◌++◌, map, ℕ, eqb, replicate, take, Ok, Err}
 use Rattle.rules.specs.declared.Kind.{Kind}
 use Rattle.rules.specs.declared.Kind.TheVariants.{Item, Program}
 use Rattle.rules.specs.declared.Refusal.{Refusal}
@@ -10,7 +11,7 @@ use Rattle.rules.specs.Table.{Slot, Tables, Plain, plain, free, accepted}
 use Rattle.rules.specs.Calls.{Call, put, show, send, fetch, add_tag, drop_tag, create, release, hand, caller_of}
 use Rattle.rules.specs.Refusals.{step}
 use Rattle.rules.specs.Record.{answer, Audit, audit}
-use Rattle.rules.specs.Runs.{bears, final, trace, kept, hidden_at, struck, heard, records}
+use Rattle.rules.specs.Runs.{bears, final, trace, kept, hidden_at, struck, struck_of_programs, heard, records}
 use Rattle.rules.specs.Claims.{SecretRuns}
 use Rattle.label.specs.Tags.{label_of}
 use Rattle.label.specs.Words.{words}
@@ -129,10 +130,50 @@ second =
     ∷ line (release 0 3) (hex "0800030000ffff000002000000000000") (now 3 free)
     -- S is {9} before the drop and empty after it
     ∷ line (drop_tag 0 0 9) (hex "0600ff00000900000002000000000000") (now 0 (entity Program 0 0 0 0x200 0x1000 0 (hex "112233")))
-    -- an item calls: 1, and its S is not in the need
-    ∷ line (put 2 (hex "44")) (hex "0102ff0100ffff000000000000000000") unchanged
+    -- an item calls: 1, and its S is the need
+    ∷ line (put 2 (hex "44")) (hex "0102ff0100ffff000002000000000000") unchanged
     ∷ shows (show 0 (replicate 64 0)) (hex "0200ff0003ffff000000000000000000") (hex "112233") (now 0 (entity Program 0 0 0 0x200 0x1000 0 (hex "112233")))
     ∷ line (release 1 1) (hex "0801010000ffff000000000000000000") (now 1 free)
+    ∷ []
+
+-- ---- items named as callers (document 02, change 2): a soil probe's item bears tag 9, as its grower in slot 0 does
+
+-- 0 prog 200 0 0 0 0 0 c3
+-- 1 prog 0 0 0 0 0 0 -
+-- 2 item 200 0 0 0 0 0 07
+-- 3 item 0 0 0 0 0 0 -
+-- 4 prog 1000 0 0 0 0 0 -
+-- and no group
+abbrev pub probe_table : Plain words
+probe_table = record {
+  slots = λ i.
+      cond (eqb i 0) (entity Program 0x200 0 0 0 0 0 (hex "c3"))
+      (cond (eqb i 1) (entity Program 0 0 0 0 0 0 [])
+      (cond (eqb i 2) (entity Item 0x200 0 0 0 0 0 (hex "07"))
+      (cond (eqb i 3) (entity Item 0 0 0 0 0 0 [])
+      (cond (eqb i 4) (entity Program 0x1000 0 0 0 0 0 []) free))));
+  groups = [];
+}
+
+abbrev pub probe : List (Line (Plain words))
+probe =
+    -- by the probe, a call of each kind: the need is its S, and slot 4's S is not in it
+    line (put 2 (hex "44")) (hex "0102ff0100ffff000002000000000000") unchanged
+    ∷ line (show 2 (replicate 64 0)) (hex "0202ff0100ffff000002000000000000") unchanged
+    ∷ line (send 2 4) (hex "0302040100ffff000002000000000000") unchanged
+    ∷ line (fetch 2 4) (hex "0402040100ffff000002000000000000") unchanged
+    ∷ line (add_tag 2 0 12) (hex "0502ff01000c00000002000000000000") unchanged
+    ∷ line (drop_tag 2 0 9) (hex "0602ff01000900000002000000000000") unchanged
+    ∷ line (create 2 7 1) (hex "0702070100ff01000002000000000000") unchanged
+    ∷ line (release 2 2) (hex "0802020100ffff000002000000000000") unchanged
+    ∷ line (hand 2 4 1 9) (hex "09020401000901000002000000000000") unchanged
+    -- by the item without a tag, by a free slot and by one above 31: the need is empty, whatever the other's S
+    ∷ line (send 3 4) (hex "0303040100ffff000000000000000000") unchanged
+    ∷ line (fetch 7 2) (hex "0407020100ffff000000000000000000") unchanged
+    ∷ line (send 40 2) (hex "0328020100ffff000000000000000000") unchanged
+    -- by programs, refused by 7 and by 4: the other's S is in the need
+    ∷ line (fetch 1 2) (hex "0401020700ffff000002000000000000") unchanged
+    ∷ line (create 4 2 1) (hex "0704020400ff01000012000000000000") unchanged
     ∷ []
 
 -- ---- what is claimed of a round: its table is accepted, each call gives what its line says, and so do the records and the bytes
@@ -149,6 +190,9 @@ RoundHolds = Holds round_table round
 
 abbrev pub SecondHolds : Type 0
 SecondHolds = Holds second_table second
+
+abbrev pub ProbeHolds : Type 0
+ProbeHolds = Holds probe_table probe
 
 -- ---- audits of all records of a round with its end table, by caller i
 
@@ -175,15 +219,24 @@ pub record AuditsHold : Type 0 where
   pub item : audited round_table round 2 (replicate 98 0xee) ≡ refused NoProgram (replicate 98 0xee)
   -- by one without the tag: no record, so no room is needed
   pub without : audited watched_table round 3 [] ≡ record { outcome = Ok tt; part = []; buffer = [] }
-  -- of the second round by slot 0, which has dropped its tag: slot 1's add, the item's refused put, its own show, slot 1's release
-  pub some : audited second_table second 0 (replicate 64 0xee) ≡ record {
+  -- of the second round by slot 0, which has dropped its tag: slot 1's add, its own show, slot 1's release
+  pub some : audited second_table second 0 (replicate 48 0xee) ≡ record {
     outcome = Ok tt;
-    part = hex "0501ff00000c010000000000000000000102ff0100ffff0000000000000000000200ff0003ffff0000000000000000000801010000ffff000000000000000000";
-    buffer = hex "0501ff00000c010000000000000000000102ff0100ffff0000000000000000000200ff0003ffff0000000000000000000801010000ffff000000000000000000";
+    part = hex "0501ff00000c010000000000000000000200ff0003ffff0000000000000000000801010000ffff000000000000000000";
+    buffer = hex "0501ff00000c010000000000000000000200ff0003ffff0000000000000000000801010000ffff000000000000000000";
   }
-  pub some_short : audited second_table second 0 (replicate 63 0xee) ≡ refused NoRoomForRecords (replicate 63 0xee)
+  pub some_short : audited second_table second 0 (replicate 47 0xee) ≡ refused NoRoomForRecords (replicate 47 0xee)
+  -- of the probe's round by slot 1, which bears no tag: the calls by the item without a tag and by the two slots that hold nothing
+  pub probe_without : audited probe_table probe 1 (replicate 48 0xee) ≡ record {
+    outcome = Ok tt;
+    part = hex "0303040100ffff0000000000000000000407020100ffff0000000000000000000328020100ffff000000000000000000";
+    buffer = hex "0303040100ffff0000000000000000000407020100ffff0000000000000000000328020100ffff000000000000000000";
+  }
+  -- by its grower: all but the last, 13 records, where there is room for 12 and 15 bytes
+  pub probe_short : audited probe_table probe 0 (replicate 207 0xee) ≡ refused NoRoomForRecords (replicate 207 0xee)
+  pub probe_all : (audited probe_table probe 0 (replicate 208 0xee)).part ≡ told (λ l. l.entry) (take 13 probe)
 
--- ---- 'Two runs', at the watering round and tag 0
+-- ---- 'Two runs', at the watering round and tag 0, and at the probe's round and tag 9
 
 -- the round's table with another content in slot 0, which bears the tag; and a list of calls with two more by that slot
 abbrev pub other_table : Plain words
@@ -194,9 +247,14 @@ longer = put 0 (hex "11") ∷ send 0 2 ∷ calls_made round
 
 pub record TwoRunsHold : Type 0 where
   -- a put, show, send or fetch by a program bearing the tag is struck out, also a refused one
-  pub kept : kept (step P) (struck P (bears words 0)) round_table (calls_made round) ≡ fetch 1 0 ∷ add_tag 1 0 0 ∷ drop_tag 1 0 0 ∷ []
-  -- slot 0 bears it; slot 1, the item in 2, the free slot 7 and the number 40 do not, and their calls are answered
+  pub of_programs : kept (step P) (struck P (bears words 0)) round_table (calls_made round) ≡ fetch 1 0 ∷ add_tag 1 0 0 ∷ drop_tag 1 0 0 ∷ []
+  -- of the probe's round and tag 9, every call by the item that bears the tag, and none by another
+  pub of_items : kept (step P) (struck P (bears words 9)) probe_table (calls_made probe) ≡ send 3 4 ∷ fetch 7 2 ∷ send 40 2 ∷ fetch 1 2 ∷ create 4 2 1 ∷ []
+  -- to the letter of demand 3 the same of programs, and none of items
+  pub letter_of_programs : kept (step P) (struck_of_programs P (bears words 0)) round_table (calls_made round) ≡ fetch 1 0 ∷ add_tag 1 0 0 ∷ drop_tag 1 0 0 ∷ []
+  pub letter_of_items : kept (step P) (struck_of_programs P (bears words 9)) probe_table (calls_made probe) ≡ calls_made probe
+  -- slot 0 bears tag 0; slot 1, the item in 2, the free slot 7 and the number 40 do not, and their calls are answered
   pub hidden : map (hidden_at P (bears words 0) round_table) (0 ∷ 1 ∷ 2 ∷ 7 ∷ 40 ∷ []) ≡ true ∷ false ∷ false ∷ false ∷ false ∷ []
   pub answered : (c : Call words) → hidden_at P (bears words 0) round_table (caller_of c) ≡ false → heard P (bears words 0) round_table c ≡ answer P round_table c ∷ []
   -- the premise of demand 3 is met by two tables and two lists that differ
-  pub premise : SecretRuns P 0 round_table other_table (calls_made round) longer
+  pub premise : SecretRuns P (struck P (bears words 0)) 0 round_table other_table (calls_made round) longer

@@ -11,8 +11,8 @@ use Rattle.rules.specs.Record.{audit}
 use Rattle.rules.proofs.Refused.{refusals_move_nothing, refused_audits_move_nothing, parts_fit}
 use Rattle.rules.proofs.Groups.{stays_accepted}
 use Rattle.rules.proofs.Shows.{records_show}
-use Rattle.rules.proofs.Secrecy.{secrecy, secrecy_undropped}
-use Rattle.rules.proofs.ByNumber.{list_by_number, needless_by_number, record-bytes}
+use Rattle.rules.proofs.Secrecy.{secrecy, secrecy_of_programs, secrecy_undropped}
+use Rattle.rules.proofs.ByNumber.{list_by_number, needless_by_number, items_refused, record-bytes}
 use Rattle.rules.proofs.Effects.{calls_leave, rights_needed}
 use Rattle.rules.proofs.Audits.{audit-by-number, runs_audited}
 use Rattle.label.proofs.Words.{words_order, words_tag}
@@ -55,6 +55,8 @@ at_hub = record {
   accepted = stays_accepted words_order hub hub_laws;
   records = records_show words_order hub;
   secrecy = λ p l. secrecy p (words_tag p l) words_order hub hub_laws;
+  items_refused = items_refused hub;
+  secrecy_of_programs = λ p l. secrecy_of_programs p (words_tag p l) words_order hub hub_laws;
   secrecy_undropped = λ p l. secrecy_undropped p (words_tag p l) words_order hub hub_laws;
   list = list_by_number hub;
   effects = calls_leave words_order hub hub_laws;

@@ -24,7 +24,7 @@ use Rattle.entity.specs.Entity.{slot_of}
 use Rattle.block.specs.Block.{block_at}
 use Rattle.cases.specs.Cases.{table_of, Case, cases, Result, given, stated}
 use Rattle.cases.specs.Rounds.{Line, calls_made, Holds}
-use Rattle.cases.proofs.Cases.{cases_hold, round_holds, second_holds}
+use Rattle.cases.proofs.Cases.{cases_hold, round_holds, second_holds, probe_holds}
 use Rattle.monitor.specs.Table.{formed, groups_of, hub, empty_table}
 use Rattle.monitor.proofs.Form.{hub_laws}
 use Rattle.monitor.proofs.Empty.{empty-entity, empty_form}
@@ -121,4 +121,4 @@ round_too {t} {ls} h =
     }
 
 pub rounds_hold_at_hub : RoundsHoldAtHub
-rounds_hold_at_hub = record { watering = round_too round_holds; second = round_too second_holds }
+rounds_hold_at_hub = record { watering = round_too round_holds; second = round_too second_holds; probe = round_too probe_holds }

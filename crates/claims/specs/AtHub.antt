@@ -9,7 +9,7 @@ use Rattle.rules.specs.Table.{Slot}
 use Rattle.rules.specs.Calls.{Call, show, moved, is_show, lent}
 use Rattle.rules.specs.Refusals.{step}
 use Rattle.rules.specs.Record.{answer, audit}
-use Rattle.rules.specs.Claims.{RefusalsMoveNothing, RefusedAuditsMoveNothing, PartsFit, StaysAccepted, RecordsShow, Secrecy, SecrecyUndropped}
+use Rattle.rules.specs.Claims.{RefusalsMoveNothing, RefusedAuditsMoveNothing, PartsFit, StaysAccepted, RecordsShow, Secrecy, ItemsRefused, SecrecyOfPrograms, SecrecyUndropped}
 use Rattle.rules.specs.ByNumber.{ListByNumber, NeedlessByNumber, RecordBytes}
 use Rattle.rules.specs.Effects.{CallsLeave, RightsNeeded}
 use Rattle.rules.specs.Audits.{AuditByNumber, RunsAudited}
@@ -61,6 +61,8 @@ pub record AtHub : Type 0 where
   pub accepted : StaysAccepted hub
   pub records : RecordsShow hub
   pub secrecy : (p : ℕ) → p < 64 → Secrecy hub p
+  pub items_refused : ItemsRefused hub
+  pub secrecy_of_programs : (p : ℕ) → p < 64 → SecrecyOfPrograms hub p
   pub secrecy_undropped : (p : ℕ) → p < 64 → SecrecyUndropped hub p
   pub list : ListByNumber hub
   pub effects : CallsLeave hub

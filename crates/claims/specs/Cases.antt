@@ -8,7 +8,7 @@ use Rattle.rules.specs.Runs.{trace}
 use Rattle.label.specs.Tags.{empty}
 use Rattle.label.specs.Words.{words}
 use Rattle.cases.specs.Cases.{table_of, Case, cases, Result, stated}
-use Rattle.cases.specs.Rounds.{Line, calls_made, told, round_table, round, second_table, second}
+use Rattle.cases.specs.Rounds.{Line, calls_made, told, round_table, round, second_table, second, probe_table, probe}
 use Rattle.monitor.specs.declared.Table.{Table}
 use Rattle.monitor.specs.Table.{hub, empty_table}
 
@@ -42,7 +42,8 @@ pub record PlaysAtHub (t : Plain words) (ls : List (Line (Plain words))) : Type 
   pub records : trace (step hub) (λ u c. (answer hub u c).entry ∷ []) (table_holding t) (calls_made ls) ≡ told (λ l. l.entry ∷ []) ls
   pub parts : trace (step hub) (λ u c. (answer hub u c).part) (table_holding t) (calls_made ls) ≡ told (λ l. l.part) ls
 
--- Document 01's watering round, and the second one
+-- Document 01's watering round, the second one, and the one in which items are named as callers
 pub record RoundsHoldAtHub : Type 0 where
   pub watering : PlaysAtHub round_table round
   pub second : PlaysAtHub second_table second
+  pub probe : PlaysAtHub probe_table probe

@@ -10,8 +10,10 @@ use lib.Dec.{ltb, eqb}
 use lib.ListN.{length, take, drop}
 use lib.Seq.{take-append_seam, drop-drop}
 use borrow.Author.Tests.{eqb-true, eq-eqb}
+use Rattle.rules.specs.declared.Kind.{Kind}
+use Rattle.rules.specs.declared.Kind.TheVariants.{Free, Item, Program}
 use Rattle.rules.specs.Labels.{Labels}
-use Rattle.rules.specs.Table.{is_program, Tables, at}
+use Rattle.rules.specs.Table.{is_free, is_item, is_program, Tables, at}
 use Rattle.rules.specs.Calls.{Call, caller_of, other_of}
 use Rattle.rules.specs.Refusals.{allow, ◌if◌else◌, first, step}
 use Rattle.rules.specs.Record.{answer, visible, records_in, shown_of, audit}
@@ -19,7 +21,7 @@ use Rattle.rules.specs.Runs.{final, trace, records}
 use Rattle.rules.specs.Laws.{OrderLaws}
 use Rattle.rules.specs.Audits.{joined, size, nth_record, shown_to, AuditByNumber, is_for, records_for, RunsAudited}
 use Rattle.rules.proofs.Facts.{iff}
-use Rattle.rules.proofs.ByNumber.{no_program, one_or_99}
+use Rattle.rules.proofs.ByNumber.{no_program, is_99, is_1}
 use Rattle.rules.proofs.Refused.{filled-rest}
 use Rattle.rules.proofs.Shows.{records_show}
 use Rattle.rules.proofs.Records.{records_whole, records_shown}
@@ -73,10 +75,21 @@ module _ {A : Labels} (T : Tables A) where
 module _ {A : Labels} (O : OrderLaws A) (T : Tables A) where
   -- a call's record shows to those whom it is for
   is-for : (l : A.Label) (t : T.Table) (c : Call A) → visible A l (answer T t c).entry ≡ is_for T l t c
-  is-for l t c = records_show O T t c l ∙ (let e = one_or_99 T t c in sym (λ z. e z || within))
+  is-for l t c = records_show O T t c l ∙ go (T.formed t) (at T t (caller_of c)).kind
+      ∙ (let e = is_99 T t c in let q = is_1 T t c in sym (λ z. (e z || (q z && is_free (at T t (caller_of c)).kind)) || (own && (q z || rest))))
     where
-      within : Bool
-      within = A.below (at T t (caller_of c)).sec l && (A.below (at T (step T t c) (caller_of c)).sec l && A.below (at T t (other_of c)).sec l)
+      own : Bool
+      own = A.below (at T t (caller_of c)).sec l
+
+      rest : Bool
+      rest = A.below (at T (step T t c) (caller_of c)).sec l && A.below (at T t (other_of c)).sec l
+
+      go : (f : Bool) (k : Kind) → not (f && not (is_free k)) || (own && (is_item k || rest))
+          ≡ ((not f || ((f && not (is_program k)) && is_free k)) || (own && ((f && not (is_program k)) || rest)))
+      go false k = refl
+      go true Free = refl
+      go true Item = refl
+      go true Program = refl
 
   shown_run : (l : A.Label) (t : T.Table) (cs : List (Call A)) → shown_of A l (records_in A (length (records T t cs) / size A) (records T t cs)) ≡ records_for T l t cs
   shown_run l t cs = records_shown O T l t cs ∙ (λ z. trace (step T) (λ u c. cond (is-for l u c z) (answer T u c).entry []) t cs)

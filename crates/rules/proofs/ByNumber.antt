@@ -1,18 +1,22 @@
 -- The list of refusals read by number is the list read call by call; flow asks no right; and what else goes by a number.
 -- Assumes nothing.
 use mathlib.Core.Path.{◌≡◌, refl, ap, sym, ◌∙◌}
-use mathlib.Core.Bool.{Bool, true, false, not, ◌&&◌, ◌||◌}
+use mathlib.Core.Bool.{Bool, true, false, cond, not, ◌&&◌, ◌||◌}
 use mathlib.Core.List.{List, [], ◌∷◌}
 use Prim.Native.Nat.{ℕ}
+use lib.Dec.{eqb}
+use borrow.Author.Tests.{eq-eqb}
 use Rattle.rules.specs.declared.Kind.{Kind}
 use Rattle.rules.specs.declared.Kind.TheVariants.{Free, Item, Program}
 use Rattle.rules.specs.Labels.{Labels}
 use Rattle.rules.specs.Table.{is_free, is_item, is_program, Slot, Tables, at}
-use Rattle.rules.specs.Calls.{Call, put, show, send, fetch, add_tag, drop_tag, create, release, hand, caller_of, other_of}
-use Rattle.rules.specs.Refusals.{Refusals, allow, ◌if◌else◌, first, number_of, refusals, verdict}
+use Rattle.rules.specs.Calls.{Call, put, show, send, fetch, add_tag, drop_tag, create, release, hand, fields_of, caller_of, other_of}
+use Rattle.rules.specs.Refusals.{Refusals, allow, ◌if◌else◌, first, number_of, refusals, verdict, step}
+use Rattle.rules.specs.Record.{need_by}
+use Rattle.rules.specs.Claims.{ItemsRefused}
 use Rattle.rules.specs.ByNumber.{among, by_number, ListByNumber, FlowIgnoresRights, KindsMove, passing, NumbersListed, NeedlessByNumber, RecordBytes}
-use Rattle.rules.specs.Numbers.{number}
-use Rattle.rules.proofs.Facts.{not-true, and_left, and_right, all_numbers}
+use Rattle.rules.specs.Numbers.{Outcome, number}
+use Rattle.rules.proofs.Facts.{not-true, and_left, and_right, neither_left, neither_right, all_numbers}
 use Rattle.rules.specs.declared.Refusal.TheVariants.{NoProgram, Formless}
 
 pub no_program : (k : Kind) → is_free k || is_item k ≡ not (is_program k)
@@ -103,25 +107,61 @@ module _ {A : Labels} where
   goes_on gs a b (hand i j n p) = refl
 
   module _ (T : Tables A) where
-    pub one_or_99 : (t : T.Table) (c : Call A) → needless (number_of (verdict T t c)) ≡ not (T.formed t && is_program (at T t (caller_of c)).kind)
-    one_or_99 t c = ap (λ (r : Refusals). needless (number_of (first (Formless if not (T.formed t) else r)))) (begins gs a b c) ∙ go (T.formed t) (is_program a.kind)
-      where
-        gs : List A.Group
-        gs = T.groups t
+    module _ (t : T.Table) (c : Call A) where
+      -- the cascade behind 99 and 1
+      abbrev rest : Refusals
+      rest = behind (refusals (T.groups t) (at T t (caller_of c)) (at T t (other_of c)) c)
 
-        a : Slot A
-        a = at T t (caller_of c)
+      verdict_begins : verdict T t c ≡ first (Formless if not (T.formed t) else NoProgram if not (is_program (at T t (caller_of c)).kind) else rest)
+      verdict_begins = ap (λ (r : Refusals). first (Formless if not (T.formed t) else r)) (begins (T.groups t) (at T t (caller_of c)) (at T t (other_of c)) c)
 
-        b : Slot A
-        b = at T t (other_of c)
+      neither : needless (number_of (first rest)) ≡ false
+      neither = others rest (goes_on (T.groups t) (at T t (caller_of c)) (at T t (other_of c)) c)
 
-        go : (f k : Bool) → needless (number_of (first (Formless if not f else NoProgram if not k else behind (refusals gs a b c)))) ≡ not (f && k)
-        go false k = refl
-        go true false = refl
-        go true true = others (behind (refusals gs a b c)) (goes_on gs a b c)
+      pub is_99 : eqb (number_of (verdict T t c)) 99 ≡ not (T.formed t)
+      is_99 = ap (λ (v : Outcome). eqb (number_of v) 99) verdict_begins ∙ go (T.formed t) (is_program (at T t (caller_of c)).kind)
+        where
+          go : (f k : Bool) → eqb (number_of (first (Formless if not f else NoProgram if not k else rest))) 99 ≡ not f
+          go false k = refl
+          go true false = refl
+          go true true = neither_left (eqb (number_of (first rest)) 99) false (neither_right (eqb (number_of (first rest)) 1) _ neither)
+
+      pub is_1 : eqb (number_of (verdict T t c)) 1 ≡ (T.formed t && not (is_program (at T t (caller_of c)).kind))
+      is_1 = ap (λ (v : Outcome). eqb (number_of v) 1) verdict_begins ∙ go (T.formed t) (is_program (at T t (caller_of c)).kind)
+        where
+          go : (f k : Bool) → eqb (number_of (first (Formless if not f else NoProgram if not k else rest))) 1 ≡ (f && not k)
+          go false k = refl
+          go true false = refl
+          go true true = neither_left (eqb (number_of (first rest)) 1) _ neither
 
     pub needless_by_number : NeedlessByNumber T
-    needless_by_number t c = record { number = one_or_99 t c; need = λ e. rw (not-true (T.formed t && is_program (at T t (caller_of c)).kind) (sym (one_or_99 t c) ∙ e)) }
+    needless_by_number t c = record {
+      is_99 = is_99 t c;
+      is_1 = is_1 t c;
+      need_99 = λ e. rw (not_formed e);
+      need_1 = λ e. go (T.formed t) (at T t (caller_of c)).kind (at T (step T t c) (caller_of c)).sec _ (sym (is_1 t c) ∙ eq-eqb (number_of (verdict T t c)) 1 e);
+    }
+      where
+        not_formed : number_of (verdict T t c) ≡ 99 → T.formed t ≡ false
+        not_formed e = not-true (T.formed t) (sym (is_99 t c) ∙ eq-eqb (number_of (verdict T t c)) 99 e)
+
+        a : A.Label
+        a = (at T t (caller_of c)).sec
+
+        go : (f : Bool) (k : Kind) (b o : A.Label) → f && not (is_program k) ≡ true
+            → A.tail (fields_of c).tag (cond f (need_by A k a b o) A.empty) ≡ A.tail (fields_of c).tag (cond (is_item k) a A.empty)
+        go false k b o h = cc
+        go true Free b o h = refl
+        go true Item b o h = refl
+        go true Program b o h = cc
+
+    pub items_refused : ItemsRefused T
+    items_refused t c f h = verdict_begins t c ∙ rw (f, not_program (at T t (caller_of c)).kind h)
+      where
+        not_program : (k : Kind) → is_item k ≡ true → is_program k ≡ false
+        not_program Free e = cc
+        not_program Item e = refl
+        not_program Program e = cc
 
     pub record-bytes : RecordBytes T
     record-bytes t c = record { byte_0 = refl; byte_1 = refl; byte_2 = refl; byte_3 = refl; byte_4 = refl; byte_5 = refl; byte_6 = refl; byte_7 = refl; from_8 = refl }

@@ -1,8 +1,8 @@
 -- One call, seen by those from whom something is hidden: what it is refused by, moves and writes, over the slots of its
 -- caller and its other. For anything that may be hidden.
 -- Assumes nothing.
-use mathlib.Core.Path.{◌≡◌, refl, ap}
-use mathlib.Core.Bool.{Bool, true, false, cond, not, ◌&&◌, ◌||◌}
+use mathlib.Core.Path.{◌≡◌, refl, ap, sym, ◌∙◌}
+use mathlib.Core.Bool.{Bool, true, false, cond, not, ◌||◌}
 use mathlib.Core.List.{List, []}
 use Prim.Native.Nat.{ℕ}
 use Rattle.rules.specs.declared.Kind.{Kind}
@@ -13,8 +13,8 @@ use Rattle.rules.specs.Calls.{Call, put, show, send, fetch, add_tag, drop_tag, c
 use Rattle.rules.specs.Calls.{add_right, drop_right, relabel, right_at, grant, with_content, with_rights, created, target, written, moved}
 use Rattle.rules.specs.declared.Refusal.TheVariants.{NoProgram}
 use Rattle.rules.specs.Refusals.{first, refusals}
-use Rattle.rules.specs.Runs.{Hidden, hides}
-use Rattle.rules.proofs.Facts.{not-false, and_left, and_right, or_left, or_right, contra, condition, guard}
+use Rattle.rules.specs.Runs.{Hidden, hides, may_differ, struck_by}
+use Rattle.rules.proofs.Facts.{not-false, and_left, and_right, both, or_left, or_right, contra, condition, guard}
 
 -- What keeps it hidden: labels and rights that are safe in a slot, and calls that are barred from a run where they are allowed,
 -- by the slot of their caller
@@ -51,10 +51,6 @@ module _ {A : Labels} where
   abbrev pub low : Hidden A → ℕ → Slot A → Slot A
   low H i e = with_content e (cond (hides H i e) [] e.content)
 
-  -- the call is struck out where its caller's slot is this
-  abbrev pub struck_by : Hidden A → Slot A → Call A → Bool
-  struck_by H a c = hides H (caller_of c) a && (is_program a.kind && moves_content c)
-
 -- the slot that a call writes, before it
 abbrev pub was : {A : Labels} → Slot A → Slot A → Call A → Slot A
 was a b (put i bs) = a
@@ -83,9 +79,15 @@ module _ {A : Labels} (H : Hidden A) where
       → low H i (with_content e (cond (hides H i a) [] x)) ≡ low H i (with_content e x)
   low_under i a e x f = ap (λ (y : List ℕ). with_content e y) (blank_twice (hides H i a) (hides H i e) x f)
 
+  -- of a program a put, show, send or fetch may differ
+  by_program : (k : Kind) (c : Call A) → not (is_program k) ≡ false → may_differ k c ≡ moves_content c
+  by_program Free c p = cc
+  by_program Item c p = cc
+  by_program Program c p = refl
+
   -- a program whose put, show, send or fetch is not struck is not hidden
   seen : (c : Call A) (a : Slot A) → moves_content c ≡ true → struck_by H a c ≡ false → not (is_program a.kind) ≡ false → hides H (caller_of c) a ≡ false
-  seen c a m h p = contra (hides H (caller_of c) a) (struck_by H a c) (λ e. rw (e, m, not-false (is_program a.kind) p)) h
+  seen c a m h p = contra (hides H (caller_of c) a) (struck_by H a c) (λ e. both _ _ e (by_program a.kind c p ∙ m)) h
 
   module _ (gs : List A.Group) (a b : Slot A) where
     pub low_refusals : (c : Call A) → struck_by H a c ≡ false → first (refusals gs (low H (caller_of c) a) (low H (other_of c) b) c) ≡ first (refusals gs a b c)
@@ -135,8 +137,9 @@ module _ {A : Labels} (H : Hidden A) where
       struck-hidden : (c : Call A) → struck_by H a c ≡ true → hides H (caller_of c) a ≡ true
       struck-hidden c h = and_left (hides H (caller_of c) a) _ h
 
-      struck-moves : (c : Call A) → struck_by H a c ≡ true → moves_content c ≡ true
-      struck-moves c h = and_right (is_program a.kind) _ (and_right (hides H (caller_of c) a) _ h)
+      -- and where it is allowed it is a put, show, send or fetch
+      struck-moves : (c : Call A) → struck_by H a c ≡ true → not (is_program a.kind) ≡ false → moves_content c ≡ true
+      struck-moves c h p = sym (by_program a.kind c p) ∙ and_right (hides H (caller_of c) a) _ h
 
       -- a struck call writes nothing that is not hidden
       pub struck_written : (c : Call A) → safely G (caller_of c) a ≡ true → safely G (other_of c) b ≡ true → struck_by H a c ≡ true
@@ -146,11 +149,11 @@ module _ {A : Labels} (H : Hidden A) where
       struck_written (send i j) k l h r =
           rw (L.flows i j a b k l (not_free a.kind (r 1)) (r 3) (or_left _ (is_program b.kind) (not-false (is_program a.kind) (r 1))) (not-false (flow a b) (r 7)) (struck-hidden (send i j) h))
       struck_written (fetch i j) k l h r = rw (struck-hidden (fetch i j) h)
-      struck_written (add_tag i n p) k l h r = let z = struck-moves (add_tag i n p) h in cc
-      struck_written (drop_tag i n p) k l h r = let z = struck-moves (drop_tag i n p) h in cc
-      struck_written (create i j n) k l h r = let z = struck-moves (create i j n) h in cc
-      struck_written (release i j) k l h r = let z = struck-moves (release i j) h in cc
-      struck_written (hand i j n p) k l h r = let z = struck-moves (hand i j n p) h in cc
+      struck_written (add_tag i n p) k l h r = let z = struck-moves (add_tag i n p) h (r 1) in cc
+      struck_written (drop_tag i n p) k l h r = let z = struck-moves (drop_tag i n p) h (r 1) in cc
+      struck_written (create i j n) k l h r = let z = struck-moves (create i j n) h (r 1) in cc
+      struck_written (release i j) k l h r = let z = struck-moves (release i j) h (r 1) in cc
+      struck_written (hand i j n p) k l h r = let z = struck-moves (hand i j n p) h (r 1) in cc
 
 -- a call that is not barred writes what is safe
 module _ {A : Labels} (gs : List A.Group) (a b : Slot A) (G : Guard A) (L : SafeLaws G) where

@@ -1,7 +1,7 @@
 -- Tables that hold the same answer the same.
 -- Assumes nothing.
 use mathlib.Core.Path.{◌≡◌, refl, sym, ap, ◌∙◌}
-use mathlib.Core.Bool.{Bool, cond, not, ◌&&◌}
+use mathlib.Core.Bool.{Bool, cond, not}
 use mathlib.Core.List.{List, [], ◌∷◌, ◌++◌}
 use Prim.Native.Nat.{ℕ}
 use lib.Dec.{eqb}
@@ -9,10 +9,10 @@ use lib.ListN.{length}
 use Rattle.rules.specs.Numbers.{Outcome}
 use Rattle.std.specs.Prelude.{Ok, Err}
 use Rattle.rules.specs.Labels.{Labels}
-use Rattle.rules.specs.Table.{is_program, Slot, Tables, at}
+use Rattle.rules.specs.Table.{Slot, Tables, at}
 use Rattle.rules.specs.Calls.{Call, fields_of, caller_of, other_of, target, written, moved, is_show, lent}
 use Rattle.rules.specs.Refusals.{◌if◌else◌, first, number_of, on_allowed, refusals, verdict, step}
-use Rattle.rules.specs.Record.{Answer, filled, record_of, answer}
+use Rattle.rules.specs.Record.{Answer, filled, record_of, need_by, answer}
 use Rattle.rules.specs.Laws.{OrderLaws, TableLaws}
 use Rattle.rules.specs.SameSlots.{HoldSame, AnswersBySlots}
 use Rattle.rules.proofs.Steps.{pass, writes, stored_at, step_formed, step_groups}
@@ -22,7 +22,7 @@ use Rattle.rules.specs.declared.Refusal.TheVariants.{Formless}
 answer_by : {A : Labels} → Bool → List A.Group → Slot A → Slot A → A.Label → Call A → Answer
 answer_by {A} f gs a b s c = record {
   outcome = v;
-  entry = record_of (fields_of c) (number_of v) (length bytes) (cond (f && is_program a.kind) (A.join (A.join a.sec s) b.sec) A.empty);
+  entry = record_of (fields_of c) (number_of v) (length bytes) (cond f (need_by A a.kind a.sec s b.sec) A.empty);
   part = cond (is_show c) bytes [];
   buffer = filled (cond (is_show c) bytes []) (lent c);
 }

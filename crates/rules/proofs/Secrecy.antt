@@ -12,20 +12,20 @@ use Rattle.rules.specs.declared.Kind.TheVariants.{Free, Item, Program}
 use Rattle.rules.specs.Numbers.{Outcome}
 use Rattle.std.specs.Prelude.{Ok, Err}
 use Rattle.rules.specs.Labels.{Labels}
-use Rattle.rules.specs.Table.{is_free, is_item, is_program, Rights, Slot, Tables, rightless, vacant, at}
+use Rattle.rules.specs.Table.{is_free, is_item, is_program, Rights, Slot, Tables, rightless, vacant, at, accepted}
 use Rattle.rules.specs.Calls.{Call, put, show, send, fetch, add_tag, drop_tag, create, release, hand, right_at, grant, kind_of, caller_of, other_of, written}
 use Rattle.rules.specs.Refusals.{first, on_allowed, refusals, verdict, step}
-use Rattle.rules.specs.Record.{need_of, answer, visible, record_size, records_in, shown_of, auditable, audit_refusals}
-use Rattle.rules.specs.Runs.{Hidden, bears, final, never, hidden_at, struck, heard, records}
+use Rattle.rules.specs.Record.{need_by, need_of, answer, visible, record_size, records_in, shown_of, auditable, audit_refusals}
+use Rattle.rules.specs.Runs.{Hidden, bears, TablesAgree, may_differ, final, never, hidden_at, struck, struck_of_programs, heard, records}
 use Rattle.rules.specs.Laws.{OrderLaws, TagLaws, TableLaws}
-use Rattle.rules.specs.Claims.{AuditsAlike, Secrecy, drops_tag, SecrecyUndropped}
+use Rattle.rules.specs.Claims.{AuditsAlike, SecretRuns, Secrecy, SecrecyOfPrograms, drops_tag, UndroppedRuns, SecrecyUndropped}
 use Rattle.rules.proofs.Facts.{not-false, not-true, not_of, and_left, and_right, both, contra, either, condition}
 use Rattle.rules.proofs.Steps.{pass, at_formed, written_at, step_formed}
 use Rattle.rules.proofs.Shows.{shows}
 use Rattle.rules.proofs.Records.{shows_to, records_whole, records_shown}
 use Rattle.rules.proofs.Unwinding.{Output, runs}
 use Rattle.rules.proofs.Hiding.{Guard, safely, SafeLaws, HidingLaws}
-use Rattle.rules.proofs.TwoRuns.{Alike, step_safe, barred_at, unwinding, answer_alike, heard_alike, runs_alike, differ_alike}
+use Rattle.rules.proofs.TwoRuns.{Alike, step_safe, barred_at, unwinding, answer_alike, heard_alike, programs_alone, runs_alike, differ_alike}
 
 -- a drop that takes the tag from the S of its caller's slot a
 abbrev takes : {A : Labels} → A.Tag → Slot A → Call A → Bool
@@ -137,8 +137,7 @@ module _ {A : Labels} (p : A.Tag) (G : TagLaws A p) (O : OrderLaws A) (T : Table
 
   -- the need of a struck call bears the tag
   struck-need : (t : T.Table) (c : Call A) → T.formed t ≡ true → struck T H t c ≡ true → A.has (need_of T t c) p ≡ true
-  struck-need t c f h = go (T.formed t && is_program (at T t (caller_of c)).kind)
-      (both (T.formed t) _ f (and_left (is_program (at T t (caller_of c)).kind) _ (and_right (A.has (at T t (caller_of c)).sec p) _ h)))
+  struck-need t c f h = go (T.formed t) (at T t (caller_of c)).kind f (and_right (A.has (at T t (caller_of c)).sec p) _ h)
     where
       a : A.Label
       a = (at T t (caller_of c)).sec
@@ -152,9 +151,11 @@ module _ {A : Labels} (p : A.Tag) (G : TagLaws A p) (O : OrderLaws A) (T : Table
       up : A.below a (A.join (A.join a b) o) ≡ true
       up = O.below_trans a (A.join a b) (A.join (A.join a b) o) (O.join_left a b) (O.join_left (A.join a b) o)
 
-      go : (z : Bool) → z ≡ true → A.has (cond z (A.join (A.join a b) o) A.empty) p ≡ true
-      go false e = cc
-      go true e = G.below_has a (A.join (A.join a b) o) up (and_left (A.has a p) _ h)
+      go : (z : Bool) (k : Kind) → z ≡ true → may_differ k c ≡ true → A.has (cond z (need_by A k a b o) A.empty) p ≡ true
+      go false k e m = cc
+      go true Free e m = cc
+      go true Item e m = and_left (A.has a p) _ h
+      go true Program e m = G.below_has a (A.join (A.join a b) o) up (and_left (A.has a p) _ h)
 
   -- so its record shows to nobody without the tag
   struck_unseen : (l : A.Label) → A.has l p ≡ false → (t : T.Table) (c : Call A) → T.formed t ≡ true → struck T H t c ≡ true
@@ -199,17 +200,23 @@ module _ {A : Labels} (p : A.Tag) (G : TagLaws A p) (O : OrderLaws A) (T : Table
   auditor_lacks Item b h e = h
   auditor_lacks Program b h e = h
 
+  not_barred : (t : T.Table) (cs : List (Call A)) → never (step T) (drops_tag T p) t cs ≡ true → never (step T) (barred_at T O L H D W) t cs ≡ true
+  not_barred t cs e = (λ z. never (step T) (λ v c. barred_is v c z) t cs) ∙ e
+
+  alike_at_first : (t u : T.Table) → accepted T t ≡ true → accepted T u ≡ true → TablesAgree T H t u → Alike T H D t u
+  alike_at_first t u f g d = differ_alike T O L H D W t u (and_left (T.formed t) _ f) (and_left (T.formed u) _ g) d (λ i. refl)
+
   pub secrecy_undropped : SecrecyUndropped T p
   secrecy_undropped t u cs ds s = record { runs = runs_alike T O L H D W t u cs ds m n start s.calls; audits = audits }
     where
       m : never (step T) (barred_at T O L H D W) t cs ≡ true
-      m = (λ z. never (step T) (λ v c. barred_is v c z) t cs) ∙ s.undropped_left
+      m = not_barred t cs s.undropped_left
 
       n : never (step T) (barred_at T O L H D W) u ds ≡ true
-      n = (λ z. never (step T) (λ v c. barred_is v c z) u ds) ∙ s.undropped_right
+      n = not_barred u ds s.undropped_right
 
       start : Alike T H D t u
-      start = differ_alike T O L H D W t u (and_left (T.formed t) _ s.left) (and_left (T.formed u) _ s.right) s.tables (λ i. refl)
+      start = alike_at_first t u s.left s.right s.tables
 
       audits : (i : ℕ) → hidden_at T H (final (step T) t cs) i ≡ false → (buf buf' : List ℕ) → length buf ≡ length buf' → AuditsAlike T t u cs ds i buf buf'
       audits i h buf buf' q = record { outcome = ap (λ (r : Outcome × List ℕ). r.0) whole; part = ap (λ (r : Outcome × List ℕ). r.1) whole }
@@ -251,18 +258,33 @@ module _ {A : Labels} (p : A.Tag) (G : TagLaws A p) (O : OrderLaws A) (T : Table
       go (Err n) e = refl
       go (Ok _) e = takes_not p G (T.groups t) (at T t (caller_of c)) (at T t (other_of c)) c (s (caller_of c)) (pass T t c e).off
 
-  pub secrecy : Secrecy T p
-  secrecy t u cs ds s = secrecy_undropped t u cs ds (record {
+  undropped_runs : (out : T.Table → Call A → Bool) (t u : T.Table) (cs ds : List (Call A)) → SecretRuns T out p t u cs ds → UndroppedRuns T out p t u cs ds
+  undropped_runs out t u cs ds s = record {
     left = s.left;
     right = s.right;
     undropped_left = never-dropped t cs f safe;
     undropped_right = never-dropped u ds (and_left (T.formed u) _ s.right) (λ i. ap (λ (r : Rights A). not (A.has r.sd p)) (sym (s.tables.slots i).rights) ∙ safe i);
     tables = s.tables;
     calls = s.calls;
-  })
+  }
     where
       f : T.formed t ≡ true
       f = and_left (T.formed t) _ s.left
 
       safe : (i : ℕ) → safely (undroppable A p) i (at T t i) ≡ true
       safe = nobody_drops p G T O L t f s.undroppable
+
+  pub secrecy : Secrecy T p
+  secrecy t u cs ds s = secrecy_undropped t u cs ds (undropped_runs (struck T H) t u cs ds s)
+
+  pub secrecy_of_programs : SecrecyOfPrograms T p
+  secrecy_of_programs t u cs ds s = secrecy t u cs ds (record {
+    left = s.left;
+    right = s.right;
+    undroppable = s.undroppable;
+    tables = s.tables;
+    calls = programs_alone T O L H D W t u cs ds (not_barred t cs r.undropped_left) (not_barred u ds r.undropped_right) (alike_at_first t u s.left s.right s.tables) s.calls;
+  })
+    where
+      r : UndroppedRuns T (struck_of_programs T H) p t u cs ds
+      r = undropped_runs (struck_of_programs T H) t u cs ds s

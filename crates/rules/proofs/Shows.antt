@@ -2,11 +2,13 @@
 -- Assumes nothing.
 use mathlib.Core.Path.{◌≡◌, refl, ◌∙◌}
 use mathlib.Core.Bool.{Bool, true, false, cond, not, ◌&&◌, ◌||◌}
+use Rattle.rules.specs.declared.Kind.{Kind}
+use Rattle.rules.specs.declared.Kind.TheVariants.{Free, Item, Program}
 use Rattle.rules.specs.Labels.{Labels}
-use Rattle.rules.specs.Table.{is_program, Tables, at}
+use Rattle.rules.specs.Table.{is_free, is_item, Tables, at}
 use Rattle.rules.specs.Calls.{Call, fields_of, kind_of, caller_of, other_of}
 use Rattle.rules.specs.Refusals.{number_of, verdict, step}
-use Rattle.rules.specs.Record.{need_of, moved_by, visible, answer}
+use Rattle.rules.specs.Record.{need_by, need_of, moved_by, visible, answer}
 use Rattle.rules.specs.Laws.{OrderLaws}
 use Rattle.rules.specs.Claims.{RecordsShow}
 use lib.ListN.{length}
@@ -26,7 +28,7 @@ module _ {A : Labels} (O : OrderLaws A) where
     shows t c l = O.entry_shows (kind_of c) (caller_of c) (other_of c) (number_of (verdict T t c)) (length (moved_by T t c)) (fields_of c).set (fields_of c).tag (need_of T t c) l
 
     pub records_show : RecordsShow T
-    records_show t c l = shows t c l ∙ go (T.formed t && is_program (at T t (caller_of c)).kind)
+    records_show t c l = shows t c l ∙ go (T.formed t) (at T t (caller_of c)).kind
       where
         a : A.Label
         a = (at T t (caller_of c)).sec
@@ -37,6 +39,13 @@ module _ {A : Labels} (O : OrderLaws A) where
         o : A.Label
         o = (at T t (other_of c)).sec
 
-        go : (z : Bool) → A.below (cond z (A.join (A.join a b) o) A.empty) l ≡ not z || (A.below a l && (A.below b l && A.below o l))
-        go true = three-below a b o l
-        go false = O.empty_below l
+        and-true : (x : Bool) → x ≡ x && true
+        and-true true = refl
+        and-true false = refl
+
+        go : (z : Bool) (k : Kind) → A.below (cond z (need_by A k a b o) A.empty) l
+            ≡ not (z && not (is_free k)) || (A.below a l && (is_item k || (A.below b l && A.below o l)))
+        go true Free = O.empty_below l
+        go true Item = and-true (A.below a l)
+        go true Program = three-below a b o l
+        go false k = O.empty_below l

@@ -16,13 +16,13 @@ use Rattle.rules.specs.Labels.{Labels}
 use Rattle.rules.specs.Table.{is_free, is_program, Slot, Tables, at}
 use Rattle.rules.specs.Calls.{Call, put, show, send, fetch, add_tag, drop_tag, create, release, hand, fields_of, caller_of, other_of, target, written, moved, moves_content, is_show, lent}
 use Rattle.rules.specs.Refusals.{first, number_of, on_allowed, refusals, verdict, step}
-use Rattle.rules.specs.Record.{Answer, filled, record_of, need_of, moved_by, answer}
-use Rattle.rules.specs.Runs.{Hidden, hides, SlotsAgree, TablesAgree, hidden_at, struck, heard, final, kept, never}
+use Rattle.rules.specs.Record.{Answer, filled, record_of, need_by, need_of, moved_by, answer}
+use Rattle.rules.specs.Runs.{Hidden, hides, may_differ, struck_by, SlotsAgree, TablesAgree, hidden_at, struck, struck_of_programs, heard, final, kept, never}
 use Rattle.rules.specs.Laws.{OrderLaws, TableLaws}
 use Rattle.rules.specs.Claims.{RunsAlike}
-use Rattle.rules.proofs.Facts.{and_left, and_right}
+use Rattle.rules.proofs.Facts.{and_left, and_right, both}
 use Rattle.rules.proofs.Steps.{Pass, pass, writes, stored_at, step_formed, step_groups, step_all}
-use Rattle.rules.proofs.Unwinding.{Unwinding, Output, runs}
+use Rattle.rules.proofs.Unwinding.{Unwinding, Output, runs, kept_alike}
 use Rattle.rules.proofs.Hiding.{Guard, safely, SafeLaws, HidingLaws, low, was, low_refusals, low_moved, low_written, struck_written, safe_written}
 
 -- ---- slots that differ only in a hidden content look alike
@@ -194,7 +194,7 @@ module _ {A : Labels} (T : Tables A) (O : OrderLaws A) (L : TableLaws T) (H : Hi
         let s = sec_alike t u a.slots (caller_of c) in
         let s' = sec_alike (step T t c) (step T u c) step-slots (caller_of c) in
         let o = sec_alike t u a.slots (other_of c) in
-        λ z. cond (f z && is_program (k z)) (A.join (A.join (s z) (s' z)) (o z)) A.empty
+        λ z. cond (f z) (need_by A (k z) (s z) (s' z) (o z)) A.empty
 
     pub answer_alike : answer T t c ≡ answer T u c
     answer_alike = let v = verdict_alike in let b = moved_alike in let n = need_alike in λ z. answer_of c (v z) (b z) (n z)
@@ -211,13 +211,13 @@ module _ {A : Labels} (T : Tables A) (O : OrderLaws A) (L : TableLaws T) (H : Hi
     after_other = after_other;
   }
 
-  -- a struck call is one by a hidden program
+  -- a struck call is one by a hidden entity
   struck-heard : (t : T.Table) (c : Call A) → struck T H t c ≡ true → hidden_at T H t (caller_of c) ≡ true
   struck-heard t c h = go (at T t (caller_of c)).kind (hides H (caller_of c) (at T t (caller_of c))) h
     where
-      go : (k : Kind) (b : Bool) → b && (is_program k && moves_content c) ≡ true → not (is_free k) && b ≡ true
+      go : (k : Kind) (b : Bool) → b && may_differ k c ≡ true → not (is_free k) && b ≡ true
       go Free b e = and_right b false e
-      go Item b e = and_left b false e
+      go Item b e = and_left b true e
       go Program b e = and_left b (moves_content c) e
 
   pub heard_alike : Output unwinding (heard T H)
@@ -226,6 +226,23 @@ module _ {A : Labels} (T : Tables A) (O : OrderLaws A) (L : TableLaws T) (H : Hi
     same = λ t u c m n a h g. let s = a.slots (caller_of c) in let r = answer_alike t u c m n a h g in
         λ z. cond (not (is_free (s z).kind) && hides H (caller_of c) (s z)) [] (r z ∷ []);
   }
+
+  -- the calls of programs alone are among those that may differ, and tables that look alike agree on which may
+  programs_among : (t : T.Table) (c : Call A) → struck_of_programs T H t c ≡ true → struck T H t c ≡ true
+  programs_among t c h = go (at T t (caller_of c)).kind (hides H (caller_of c) (at T t (caller_of c))) h
+    where
+      go : (k : Kind) (b : Bool) → b && (is_program k && moves_content c) ≡ true → b && may_differ k c ≡ true
+      go Free b e = e
+      go Item b e = both b true (and_left b false e) refl
+      go Program b e = e
+
+  struck_alike : (t u : T.Table) (c : Call A) → Alike T H G t u → struck T H t c ≡ struck T H u c
+  struck_alike t u c a = ap (λ (e : Slot A). struck_by H e c) (a.slots (caller_of c))
+
+  -- so lists that are the same but for the calls of programs are so but for all that may differ
+  pub programs_alone : (t u : T.Table) (cs ds : List (Call A)) → never (step T) barred_at t cs ≡ true → never (step T) barred_at u ds ≡ true → Alike T H G t u
+      → kept (step T) (struck_of_programs T H) t cs ≡ kept (step T) (struck_of_programs T H) u ds → kept (step T) (struck T H) t cs ≡ kept (step T) (struck T H) u ds
+  programs_alone = kept_alike unwinding (struck_of_programs T H) programs_among struck_alike
 
   -- both claims of two runs but the audits, from tables that look alike
   pub runs_alike : (t u : T.Table) (cs ds : List (Call A)) → never (step T) barred_at t cs ≡ true → never (step T) barred_at u ds ≡ true → Alike T H G t u

@@ -96,3 +96,56 @@ module _ {S E : Type 0} {after : S → E → S} (U : Unwinding after) where
             → (b : Bool) → U.struck s e ≡ b → cond b rest (e ∷ rest) ≡ kept after U.struck u fs → Runs s u (e ∷ es) fs
         go ih true h q = skip_left s u e es fs fit a h (ih u fs n (U.after_struck s u e fit a h) q)
         go ih false h q = meet s e es rest fit h ih u fs n a q
+
+-- ---- Fewer events struck out. Runs that are the same but for these are the same but for all that may be struck out, where
+-- states that look alike agree on which may
+
+module _ {S E : Type 0} {after : S → E → S} (U : Unwinding after) (out : S → E → Bool)
+    (among : (s : S) (e : E) → out s e ≡ true → U.struck s e ≡ true)
+    (looks : (s u : S) (e : E) → U.Alike s u → U.struck s e ≡ U.struck u e) where
+  -- an event that may be struck out, in both runs
+  struck_both : (s u : S) (e : E) → U.barred s e ≡ false → U.barred u e ≡ false → U.Alike s u → U.struck s e ≡ true → U.Alike (after s e) (after u e)
+  struck_both s u e m n a h = U.swap (after u e) (after s e)
+      (U.after_struck u (after s e) e n (U.swap (after s e) u (U.after_struck s u e m a h)) (sym (looks s u e a) ∙ h))
+
+  after_kept : (s u : S) (e : E) → U.barred s e ≡ false → U.barred u e ≡ false → U.Alike s u → out s e ≡ false → out u e ≡ false → U.Alike (after s e) (after u e)
+  after_kept s u e m n a h g = go (U.struck s e) refl
+    where
+      go : (b : Bool) → U.struck s e ≡ b → U.Alike (after s e) (after u e)
+      go true k = struck_both s u e m n a k
+      go false k = U.after_other s u e m n a k (sym (looks s u e a) ∙ k)
+
+  abbrev fewer : Unwinding after
+  fewer = record {
+    Alike = U.Alike;
+    struck = out;
+    barred = U.barred;
+    swap = U.swap;
+    after_struck = λ s u e m a h. U.after_struck s u e m a (among s e h);
+    after_other = after_kept;
+  }
+
+  -- the event, unless it may be struck out: what a run gives so is what is kept of it
+  abbrev unstruck : S → E → List E
+  unstruck s e = cond (U.struck s e) [] (e ∷ [])
+
+  is_kept : (s : S) (es : List E) → trace after unstruck s es ≡ kept after U.struck s es
+  is_kept s [] = refl
+  is_kept s (e ∷ es) = go (U.struck s e) (is_kept (after s e) es)
+    where
+      rest : List E
+      rest = trace after unstruck (after s e) es
+
+      go : (b : Bool) → rest ≡ kept after U.struck (after s e) es → cond b [] (e ∷ []) ++ rest ≡ cond b (kept after U.struck (after s e) es) (e ∷ kept after U.struck (after s e) es)
+      go true q = q
+      go false q = ap (λ (x : List E). e ∷ x) q
+
+  unstruck_alike : Output fewer unstruck
+  unstruck_alike = record {
+    none = λ s u e m a h. rw (among s e h);
+    same = λ s u e m n a h g. let q = looks s u e a in λ z. cond (q z) [] (e ∷ []);
+  }
+
+  pub kept_alike : (s u : S) (es fs : List E) → never after U.barred s es ≡ true → never after U.barred u fs ≡ true → U.Alike s u
+      → kept after out s es ≡ kept after out u fs → kept after U.struck s es ≡ kept after U.struck u fs
+  kept_alike s u es fs m n a k = sym (is_kept s es) ∙ (runs fewer unstruck unstruck_alike s u es fs m n a k).gives ∙ is_kept u fs

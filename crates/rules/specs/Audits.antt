@@ -1,7 +1,7 @@
 -- Document 01, 'The record', on audits, read a second time: an audit's refusals by number and the records that it shows by their
 -- places in the list; and what an audit of a run's own records shows, by the calls of that run.
 -- Assumes nothing.
-use Rattle.std.specs.Prelude.{◌≡◌, Bool, cond, not, ◌&&◌, ◌||◌, List, [], ◌∷◌, ◌++◌, ℕ, zero, suc, ◌+◌, ◌*◌, ◌/◌, ◌≤◌, ltb, eqb, length, get_or, take, drop, Ok}
+use Rattle.std.specs.Prelude.{◌≡◌, Bool, cond, not, ◌&&◌, ◌||◌, List, [], ◌++◌, ℕ, zero, suc, ◌+◌, ◌*◌, ◌/◌, ◌≤◌, ltb, eqb, length, get_or, take, drop, Ok}
 use Rattle.rules.specs.declared.Refusal.TheVariants.{NoProgram, ListNotWhole, NoRoomForRecords, Formless}
 use Rattle.rules.specs.Labels.{Labels}
 use Rattle.rules.specs.Table.{is_free, is_item, Tables, at}
@@ -9,7 +9,6 @@ use Rattle.rules.specs.Calls.{Call, caller_of, other_of}
 use Rattle.rules.specs.Refusals.{Refusals, allow, ◌if◌else◌, first, number_of, verdict, step}
 use Rattle.rules.specs.Record.{answer, visible, audit}
 use Rattle.rules.specs.Runs.{final, trace, records}
-use Rattle.rules.specs.ByNumber.{among}
 
 -- f 0, f 1 and so on, n of them, joined
 unfoldable pub joined : ℕ → (ℕ → List ℕ) → List ℕ
@@ -52,12 +51,14 @@ module _ {A : Labels} (T : Tables A) where
 
   -- ---- the audit of a run's own records
 
-  -- the record of a call is for one whose S is l: refused by 1 or 99 the call is everybody's; else its caller's S, before and after
-  -- it, and its other's S lie within l
+  -- The record of a call is for one whose S is l, by the number returned: 99 is everybody's, and so is 1 where the caller's slot is
+  -- free or too high; else its caller's S lies within l and, but for 1, its caller's S after it and its other's S do
   abbrev pub is_for : A.Label → T.Table → Call A → Bool
   is_for l t c =
-      among (1 ∷ 99 ∷ []) (number_of (verdict T t c))
-      || (A.below (at T t (caller_of c)).sec l && (A.below (at T (step T t c) (caller_of c)).sec l && A.below (at T t (other_of c)).sec l))
+      let n = number_of (verdict T t c) in
+      let a = at T t (caller_of c) in
+      (eqb n 99 || (eqb n 1 && is_free a.kind))
+      || (A.below a.sec l && (eqb n 1 || (A.below (at T (step T t c) (caller_of c)).sec l && A.below (at T t (other_of c)).sec l)))
 
   -- the records of a run that are for l, in the order of its calls, joined
   abbrev pub records_for : A.Label → T.Table → List (Call A) → List ℕ

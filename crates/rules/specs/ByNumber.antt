@@ -1,8 +1,8 @@
 -- Document 01, 'When a call is turned down', read by number: the condition of each refusal over all calls, in that list's
 -- order and words. The cascades in Refusals say the same call by call. And what else goes by a number: the kinds of the calls
--- that move content, the numbers that are listed at all, the calls whose need is empty, the bytes of a record.
+-- that move content, the numbers that are listed at all, the need under 1 and 99, the bytes of a record.
 -- Assumes nothing.
-use Rattle.std.specs.Prelude.{◌≡◌, Bool, true, false, cond, not, ◌&&◌, ◌||◌, List, [], ◌∷◌, ◌++◌, ℕ, zero, suc, ltb, eqb, length, get_or, drop}
+use Rattle.std.specs.Prelude.{◌≡◌, Bool, false, cond, not, ◌&&◌, ◌||◌, List, [], ◌∷◌, ◌++◌, ℕ, zero, suc, ltb, eqb, length, get_or, drop}
 use Rattle.rules.specs.declared.Refusal.TheVariants.{NoProgram, OutOfRange, SlotFree, SlotTaken, TooLong, NoRoom, FlowForbidden, NotReleasable, OtherIsItem, NoRight, BreaksGroup, Formless}
 use Rattle.std.proofs.Math.Option.{Option, none, some}
 use Rattle.rules.specs.Labels.{Labels}
@@ -87,10 +87,14 @@ pub record NumbersListed : Type 0 where
   pub calls : passing 256 listed ≡ 1 ∷ 2 ∷ 3 ∷ 4 ∷ 5 ∷ 6 ∷ 7 ∷ 8 ∷ 9 ∷ 10 ∷ 11 ∷ 99 ∷ []
   pub audits : passing 256 audit_listed ≡ 1 ∷ 12 ∷ 13 ∷ 99 ∷ []
 
--- A record's number is 1 or 99 exactly where the table lacks the form or the caller is no program; its need is then empty
+-- A record's number is 99 exactly where the table lacks the form, and 1 exactly where it has the form and the caller is no program.
+-- The need is empty under 99, and under 1 the S of a live item alone, or empty
 pub record Needless {A : Labels} (T : Tables A) (t : T.Table) (c : Call A) : Type 0 where
-  pub number : among (1 ∷ 99 ∷ []) (get_or (answer T t c).entry 3 0) ≡ not (T.formed t && is_program (at T t (caller_of c)).kind)
-  pub need : among (1 ∷ 99 ∷ []) (get_or (answer T t c).entry 3 0) ≡ true → drop 8 (answer T t c).entry ≡ A.tail (fields_of c).tag A.empty
+  pub is_99 : eqb (get_or (answer T t c).entry 3 0) 99 ≡ not (T.formed t)
+  pub is_1 : eqb (get_or (answer T t c).entry 3 0) 1 ≡ (T.formed t && not (is_program (at T t (caller_of c)).kind))
+  pub need_99 : get_or (answer T t c).entry 3 0 ≡ 99 → drop 8 (answer T t c).entry ≡ A.tail (fields_of c).tag A.empty
+  pub need_1 : get_or (answer T t c).entry 3 0 ≡ 1
+      → drop 8 (answer T t c).entry ≡ A.tail (fields_of c).tag (cond (is_item (at T t (caller_of c)).kind) (at T t (caller_of c)).sec A.empty)
 
 abbrev pub NeedlessByNumber : {A : Labels} → Tables A → Type 0
 NeedlessByNumber {A} T = (t : T.Table) (c : Call A) → Needless T t c

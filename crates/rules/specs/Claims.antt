@@ -2,13 +2,14 @@
 -- Assumes nothing.
 use Rattle.std.specs.Prelude.{◌≡◌, Bool, true, false, not, ◌&&◌, ◌||◌, List, [], ℕ, ◌≤◌, ltb, leb, eqb, length, get_or, Err}
 use Rattle.rules.specs.declared.Refusal.{Refusal}
+use Rattle.rules.specs.declared.Refusal.TheVariants.{NoProgram}
 use Rattle.rules.specs.Numbers.{number}
 use Rattle.rules.specs.Labels.{Labels}
-use Rattle.rules.specs.Table.{is_program, Tables, at, accepted}
+use Rattle.rules.specs.Table.{is_free, is_item, is_program, Tables, at, accepted}
 use Rattle.rules.specs.Calls.{Call, kind_of, caller_of, other_of, lent}
 use Rattle.rules.specs.Refusals.{verdict, step}
 use Rattle.rules.specs.Record.{answer, visible, audit}
-use Rattle.rules.specs.Runs.{Hidden, bears, final, trace, kept, never, TablesAgree, hidden_at, struck, heard, records}
+use Rattle.rules.specs.Runs.{Hidden, bears, final, trace, kept, never, TablesAgree, hidden_at, struck, struck_of_programs, heard, records}
 
 -- the numbers of a call's refusals, 1 to 11 and 99, and of an audit's
 abbrev pub listed : ℕ → Bool
@@ -61,12 +62,14 @@ module _ {A : Labels} (T : Tables A) where
   StaysAccepted = (t : T.Table) (cs : List (Call A)) → accepted T t ≡ true → Kept t (final (step T) t cs)
 
   -- A record shows to exactly those whose S takes in the S of its caller, before and after the call, and of its other
-  -- (003, section 6.4); one of refusal 1 or 99, to everybody
+  -- (003, section 6.4); one whose caller is an item, to those whose S takes in the item's; one of a table that lacks the form, or
+  -- whose caller's slot is free or too high, to everybody
   abbrev pub RecordsShow : Type 0
   RecordsShow = (t : T.Table) (c : Call A) (l : A.Label) → visible A l (answer T t c).entry
-      ≡ (not (T.formed t && is_program (at T t (caller_of c)).kind)
+      ≡ (not (T.formed t && not (is_free (at T t (caller_of c)).kind))
       || (A.below (at T t (caller_of c)).sec l
-      && (A.below (at T (step T t c) (caller_of c)).sec l && A.below (at T t (other_of c)).sec l)))
+      && (is_item (at T t (caller_of c)).kind
+      || (A.below (at T (step T t c) (caller_of c)).sec l && A.below (at T t (other_of c)).sec l))))
 
   -- ---- Demand 3
 
@@ -82,14 +85,13 @@ module _ {A : Labels} (T : Tables A) where
     pub part : (audit T (final (step T) t cs) i (records T t cs) buf).part ≡ (audit T (final (step T) u ds) i (records T u ds) buf').part
 
   -- A secrecy tag p that no program of the starting table has the right to drop. Two accepted tables that differ only in
-  -- the contents of entities bearing it, and two lists of calls, the same once every put, show, send and fetch by a
-  -- program bearing it is struck out
-  pub record SecretRuns (p : A.Tag) (t u : T.Table) (cs ds : List (Call A)) : Type 0 where
+  -- the contents of entities bearing it, and two lists of calls, the same once those that may differ are struck out of each
+  pub record SecretRuns (out : T.Table → Call A → Bool) (p : A.Tag) (t u : T.Table) (cs ds : List (Call A)) : Type 0 where
     pub left : accepted T t ≡ true
     pub right : accepted T u ≡ true
     pub undroppable : (i : ℕ) → is_program (at T t i).kind ≡ true → A.has (at T t i).rights.sd p ≡ false
     pub tables : TablesAgree T (bears A p) t u
-    pub calls : kept (step T) (struck T (bears A p)) t cs ≡ kept (step T) (struck T (bears A p)) u ds
+    pub calls : kept (step T) out t cs ≡ kept (step T) out u ds
 
   -- Nobody without the tag learns anything: not from the tables and answers, and not from an audit, into buffers of one
   -- length, by a caller who is without it in the end tables (their labels are the same)
@@ -98,8 +100,19 @@ module _ {A : Labels} (T : Tables A) where
     pub audits : (i : ℕ) → hidden_at T (bears A p) (final (step T) t cs) i ≡ false
         → (buf buf' : List ℕ) → length buf ≡ length buf' → AuditsAlike t u cs ds i buf buf'
 
+  -- Every put, show, send and fetch by a program bearing the tag may differ, and every call that names an item bearing it as its
+  -- caller
   abbrev pub Secrecy : A.Tag → Type 0
-  Secrecy p = (t u : T.Table) (cs ds : List (Call A)) → SecretRuns p t u cs ds → Undisclosed p t u cs ds
+  Secrecy p = (t u : T.Table) (cs ds : List (Call A)) → SecretRuns (struck T (bears A p)) p t u cs ds → Undisclosed p t u cs ds
+
+  -- Such a call by an item fails: in a table in form 1 refuses every call whose caller is an item
+  abbrev pub ItemsRefused : Type 0
+  ItemsRefused = (t : T.Table) (c : Call A) → T.formed t ≡ true → is_item (at T t (caller_of c)).kind ≡ true → verdict T t c ≡ Err NoProgram
+
+  -- Demand 3 to the letter, where the calls of programs alone may differ. It follows from Secrecy: lists that are the same without
+  -- fewer calls are the same without more, since the same calls of both are struck out
+  abbrev pub SecrecyOfPrograms : A.Tag → Type 0
+  SecrecyOfPrograms p = (t u : T.Table) (cs ds : List (Call A)) → SecretRuns (struck_of_programs T (bears A p)) p t u cs ds → Undisclosed p t u cs ds
 
   -- ---- Demand 3 whatever rights there are
 
@@ -109,14 +122,14 @@ module _ {A : Labels} (T : Tables A) where
 
   -- As in SecretRuns, but programs may have and hand on the right to drop the tag: only, no allowed drop of it from S is in either
   -- run
-  pub record UndroppedRuns (p : A.Tag) (t u : T.Table) (cs ds : List (Call A)) : Type 0 where
+  pub record UndroppedRuns (out : T.Table → Call A → Bool) (p : A.Tag) (t u : T.Table) (cs ds : List (Call A)) : Type 0 where
     pub left : accepted T t ≡ true
     pub right : accepted T u ≡ true
     pub undropped_left : never (step T) (drops_tag p) t cs ≡ true
     pub undropped_right : never (step T) (drops_tag p) u ds ≡ true
     pub tables : TablesAgree T (bears A p) t u
-    pub calls : kept (step T) (struck T (bears A p)) t cs ≡ kept (step T) (struck T (bears A p)) u ds
+    pub calls : kept (step T) out t cs ≡ kept (step T) out u ds
 
   -- Changes of labels are explicit (003, 3.4.2): a right that is not used discloses nothing. Secrecy follows from it
   abbrev pub SecrecyUndropped : A.Tag → Type 0
-  SecrecyUndropped p = (t u : T.Table) (cs ds : List (Call A)) → UndroppedRuns p t u cs ds → Undisclosed p t u cs ds
+  SecrecyUndropped p = (t u : T.Table) (cs ds : List (Call A)) → UndroppedRuns (struck T (bears A p)) p t u cs ds → Undisclosed p t u cs ds

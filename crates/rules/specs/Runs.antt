@@ -1,6 +1,8 @@
 -- Document 01, 'Two runs': runs, what is hidden, the calls that may differ, and what callers hear.
 -- Assumes nothing.
 use Rattle.std.specs.Prelude.{◌≡◌, Bool, true, false, cond, not, ◌&&◌, List, [], ◌∷◌, ◌++◌, ℕ}
+use Rattle.rules.specs.declared.Kind.{Kind}
+use Rattle.rules.specs.declared.Kind.TheVariants.{Free, Item, Program}
 use Rattle.rules.specs.Labels.{Labels}
 use Rattle.rules.specs.Table.{is_free, is_program, Slot, Tables, at}
 use Rattle.rules.specs.Calls.{Call, caller_of, moves_content}
@@ -48,6 +50,17 @@ module _ {A : Labels} where
   abbrev pub hides : Hidden A → ℕ → Slot A → Bool
   hides H i e = H i e.sec e.int
 
+  -- What may differ between two runs, by the kind of a hidden caller: a put, show, send or fetch by a program, and by an item any
+  -- call (document 02, change 2), since 1 refuses each (ItemsRefused)
+  abbrev pub may_differ : Kind → Call A → Bool
+  may_differ Free c = false
+  may_differ Item c = true
+  may_differ Program c = moves_content c
+
+  -- the call is struck out where this is its caller's slot
+  abbrev pub struck_by : Hidden A → Slot A → Call A → Bool
+  struck_by H a c = hides H (caller_of c) a && may_differ a.kind c
+
   -- Two slots agree but for the content of a hidden entity
   pub record SlotsAgree (H : Hidden A) (i : ℕ) (x y : Slot A) : Type 0 where
     pub kind : x.kind ≡ y.kind
@@ -66,9 +79,13 @@ module _ {A : Labels} (T : Tables A) (H : Hidden A) where
   abbrev pub hidden_at : T.Table → ℕ → Bool
   hidden_at t i = not (is_free (at T t i).kind) && hides H i (at T t i)
 
-  -- a put, show, send or fetch by a hidden program, in the table that the call gets
+  -- the calls that may differ, in the table that the call gets
   abbrev pub struck : T.Table → Call A → Bool
-  struck t c = hides H (caller_of c) (at T t (caller_of c)) && (is_program (at T t (caller_of c)).kind && moves_content c)
+  struck t c = struck_by H (at T t (caller_of c)) c
+
+  -- Demand 3 to the letter: a put, show, send or fetch by a hidden program, in the table that the call gets
+  abbrev pub struck_of_programs : T.Table → Call A → Bool
+  struck_of_programs t c = hides H (caller_of c) (at T t (caller_of c)) && (is_program (at T t (caller_of c)).kind && moves_content c)
 
   -- the answer to a caller who is not hidden
   abbrev pub heard : T.Table → Call A → List Answer

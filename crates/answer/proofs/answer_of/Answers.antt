@@ -16,4 +16,4 @@ on_both (Err r) b x y = refl
 pub returns : goal.returns
 unfolding answered_by
 returns c =
-    simp (c.record_of.ensures, c.moved_by.ensures, c.number_of.ensures, c.choose-need.ensures, c.empty.ensures, c.is_program.ensures, c.union-all.ensures, c.union.ensures, c.choose-is.ensures, c.is_ok.ensures.value, c.fields_of-f.ensures, on_both)
+    simp (c.record_of.ensures, c.moved_by.ensures, c.number_of.ensures, c.choose-need.ensures, c.empty.ensures, c.need_by-all.ensures, c.choose-is.ensures, c.is_ok.ensures.value, c.fields_of-f.ensures, on_both)
