@@ -108,13 +108,15 @@ static uint8_t decide(struct table *t, const struct call *c, const uint8_t *byte
     *need = 0;
     if (!formed(t))
         return 99;
-    if (c->caller >= SLOTS || t->entity[c->caller].kind != PROG)
+    if (c->caller >= SLOTS)
         return 1;
     struct entity *e = &t->entity[c->caller];
     uint8_t *own = t->content + CONTENT * c->caller;
     struct entity *o = NULL;
     uint8_t *others = NULL;
-    *need = e->sec;
+    *need = e->sec; /* a free slot has none */
+    if (e->kind != PROG)
+        return 1;
     if (c->other < SLOTS) {
         o = &t->entity[c->other];
         others = t->content + CONTENT * c->other;

@@ -165,6 +165,17 @@ def every_number():
             yield status == int(not possible), f'record {record.hex()}: {status}\n{output}{error}'
 
 
+def every_need():
+    """Under 1 a record with a need is told just where the caller's slot may hold an item, under 99 never."""
+    for kind, (_, *uses) in POSSIBLE.items():
+        for number, caller, need in itertools.product((1, 99), (0, 31, 32, 255), (0, 1, 1 << 63)):
+            other, tag, field = (5 if used else 255 for used in uses)
+            record = bytes([kind, caller, other, number, 0, tag, field, 0]) + need.to_bytes(8, 'little')
+            status, output, error = explain('--raw', data=record)
+            possible = need == 0 or number == 1 and caller < 32
+            yield status == int(not possible), f'record {record.hex()}: {status}\n{output}{error}'
+
+
 # Pictures.
 
 EDGE = re.compile(r'  slot([0-9]+) -> slot([0-9]+)(?: \[(?:label="((?:[^"\\]|\\.)*)")?(?:, )?(style=dashed.*)?\])?;')
@@ -331,8 +342,8 @@ def program():
 def results():
     """Runs all, prints what failed, and returns how many passed and failed."""
     counts = collections.Counter()
-    for tests in (stored_cases, every_record, every_answer, every_number, drawn_records, flow_verdicts, drawn_flows,
-                  shown_to_readers, program):
+    for tests in (stored_cases, every_record, every_answer, every_number, every_need, drawn_records, flow_verdicts,
+                  drawn_flows, shown_to_readers, program):
         for good, words in tests():
             counts[bool(good)] += 1
             if not good:

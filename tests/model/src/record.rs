@@ -24,10 +24,11 @@ pub fn record(call: &Call, number: u8, moved: u8, need: &Tags) -> Record {
 }
 
 /// The union of the caller's S before and after the call and the S of the
-/// other's slot before it. Empty for refusals 1 and 99.
+/// other's slot before it. For refusal 1 it is the S of the item in the caller's
+/// slot alone, so empty if that is free or above 31.
 pub fn need(before: &Hub, after: &Hub, call: &Call, number: u8) -> Tags {
-    if number == 1 || number == 99 {
-        return Tags::new();
+    if number == 1 {
+        return before.secrecy(call.caller);
     }
     let other = call.other.map(|slot| before.secrecy(slot)).unwrap_or_default();
     union([&before.secrecy(call.caller), &after.secrecy(call.caller), &other])

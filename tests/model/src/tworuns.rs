@@ -4,7 +4,7 @@ use crate::call::{Call, Name};
 use crate::effect::Answer;
 use crate::generate::rng::Rng;
 use crate::generate::scenes::{call_line, table_lines};
-use crate::generate::world::{call, call_of, world};
+use crate::generate::world::{call, call_of, failing_caller, world};
 use crate::hub::{Hub, DROP_S, SLOTS};
 use crate::raw::Table;
 
@@ -40,10 +40,14 @@ fn bears(hub: &Hub, slot: u8, tag: u8) -> bool {
     hub.secrecy(slot).contains(&tag)
 }
 
-/// A put, show, send or fetch whose caller is a program bearing the tag.
+/// The calls that may differ where a program bearing the tag makes them.
+const CONTENT_CALLS: [Name; 4] = [Name::Put, Name::Show, Name::Send, Name::Fetch];
+
+/// A put, show, send or fetch whose caller is a program bearing the tag, or any call whose
+/// caller is an item bearing it.
 fn may_differ(hub: &Hub, call: &Call, tag: u8) -> bool {
-    let content_call = matches!(call.name, Name::Put | Name::Show | Name::Send | Name::Fetch);
-    content_call && hub.program(call.caller).is_some() && bears(hub, call.caller, tag)
+    let by_program = hub.program(call.caller).is_some();
+    bears(hub, call.caller, tag) && (!by_program || CONTENT_CALLS.contains(&call.name))
 }
 
 fn trace(run: &Run, tag: u8) -> Trace {
@@ -173,7 +177,11 @@ pub fn random_pair(rng: &mut Rng) -> Pair {
         struck_calls(rng, &mut b, &mut now_b, &world.pool, tag);
         let length = rng.pick(&[0, 1, 5, 63, 64, 70]);
         let usual = call(rng, &now_a, &world.pool, length);
-        let both = if rng.chance(20) { probe(rng, &now_a, tag).unwrap_or(usual) } else { usual };
+        let both = match rng.below(10) {
+            0..=1 => probe(rng, &now_a, tag).unwrap_or(usual),
+            2 => failing_call(rng, &now_a, &world.pool, length),
+            _ => usual,
+        };
         push(&mut a, &mut now_a, both.clone());
         push(&mut b, &mut now_b, both);
     }
@@ -205,17 +213,23 @@ fn probe(rng: &mut Rng, now: &Hub, tag: u8) -> Option<Call> {
     both_there.then(|| Call::fetch(rng.pick(&callers), rng.pick(&hidden)))
 }
 
-/// Some calls of one run only, by programs that bear the tag at that moment.
+/// A call by an item, a free slot or one above 31; `buffer` is the length lent to a show.
+fn failing_call(rng: &mut Rng, now: &Hub, pool: &[u8], buffer: usize) -> Call {
+    let caller = failing_caller(rng, now);
+    let name = rng.pick(&Name::ALL);
+    call_of(rng, now, pool, buffer, name, caller)
+}
+
+/// Some calls of one run only, by programs and items that bear the tag at that moment.
 fn struck_calls(rng: &mut Rng, run: &mut Run, now: &mut Hub, pool: &[u8], tag: u8) {
     for _ in 0..rng.pick(&[0, 0, 1, 2, 4]) {
-        let bearers: Vec<u8> = (0..SLOTS as u8)
-            .filter(|slot| now.program(*slot).is_some() && bears(now, *slot, tag))
-            .collect();
+        let bearers: Vec<u8> = (0..SLOTS as u8).filter(|slot| bears(now, *slot, tag)).collect();
         if bearers.is_empty() {
             return;
         }
         let caller = rng.pick(&bearers);
-        let name = rng.pick(&[Name::Put, Name::Show, Name::Send, Name::Fetch]);
+        let by_program = now.program(caller).is_some();
+        let name = if by_program { rng.pick(&CONTENT_CALLS) } else { rng.pick(&Name::ALL) };
         let length = rng.pick(&[0, 1, 64]);
         let call = call_of(rng, now, pool, length, name, caller);
         push(run, now, call);

@@ -14,6 +14,7 @@ import sys
 
 HERE = os.path.dirname(os.path.abspath(__file__))
 sys.path.insert(0, os.path.dirname(os.path.dirname(HERE)))
+import items
 from records import near
 
 BUILT = os.path.join(os.path.dirname(HERE), "target", "release")
@@ -93,11 +94,14 @@ def fresh(kind):
     return folder
 
 
-def answer(folder):
+def answer(folder, auditors=()):
+    """Writes the output for each input, and audits of the texts by some slots."""
     for name in sorted(os.listdir(folder)):
         stem, kind = os.path.splitext(name)
         if kind == ".txt":
             write(folder, stem + ".out", run("model", given=read(folder, name)))
+            for slot in auditors:
+                write(folder, f"{stem}.{slot}.out", run("audit", slot, given=read(folder, name)))
         elif kind == ".script":
             write(folder, stem + ".sout", run("script", given=read(folder, name)))
         elif kind == ".records":
@@ -117,6 +121,12 @@ def main():
     for seed in SCRIPTS:
         write(folder, f"script-{seed:02}.script", run("generate_script", seed, SCENES))
     answer(folder)
+    folder = fresh("items")
+    for name, text in items.texts():
+        write(folder, name + ".txt", text.encode())
+    for name, lines in items.scripts():
+        write(folder, name + ".script", "".join(line + "\n" for line in lines).encode())
+    answer(folder, items.AUDITORS)
     folder = fresh("tally")
     for name, content in lists():
         write(folder, name + ".records", content)

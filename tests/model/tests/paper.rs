@@ -2,6 +2,7 @@
 
 use hub::call::Call;
 use hub::hub::{Entity, Hub, Kind, DROP_S};
+use hub::record::Record;
 use hub::tags::Tags;
 
 const ROUND: &str = "\
@@ -114,4 +115,24 @@ fn p13_and_p14_show() {
     assert_eq!((refused.number, refused.part, refused.buffer), (6, vec![], vec![7; 2]), "P13");
     let shown = hub.call(&Call::show(0, vec![7; 3])).1;
     assert_eq!((shown.number, shown.part, shown.buffer), (0, vec![1, 2, 3], vec![1, 2, 3]), "P14");
+}
+
+#[test]
+fn the_failed_calls_of_a_probe_are_not_in_every_growers_audit() {
+    let probe = Entity { kind: Kind::Item, ..program(&[0], &[]) };
+    let growers = [program(&[0], &[]), program(&[1], &[]), program(&[], &[]), program(&[0, 1], &[])];
+    let mut hub = hub_of(&growers);
+    hub.slots[9] = Some(probe);
+    let calls = [Call::put(9, vec![21]), Call::send(9, 1), Call::put(8, vec![21]), Call::fetch(40, 9)];
+    let (end, answers) = hub.run(&calls);
+    assert_eq!(end, hub);
+    let numbers: Vec<u8> = answers.iter().map(|answer| answer.number).collect();
+    assert_eq!(numbers, [1, 1, 1, 1]);
+    let records: Vec<Record> = answers.iter().map(|answer| answer.record).collect();
+    let list = records.concat();
+    let shown = |auditor| end.audit(auditor, &list, &[0; 64]).part;
+    assert_eq!(shown(0), list, "the probe's grower");
+    assert_eq!(shown(1), records[2..].concat(), "a free slot's and a too high one's");
+    assert_eq!(shown(2), records[2..].concat());
+    assert_eq!(shown(3), list);
 }

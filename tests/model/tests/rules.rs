@@ -1,17 +1,19 @@
 //! Rules and readings that the paper's examples do not show.
 
-use hub::call::Call;
+use std::collections::BTreeMap;
+
+use hub::call::{Call, Name};
 use hub::generate::damage::{catalogue, Class};
 use hub::generate::draft::round;
 use hub::generate::rng::Rng;
 use hub::generate::scenes::script;
 use hub::generate::world::{call, world};
-use hub::hub::{Entity, Hub, Kind, ADD_S};
+use hub::hub::{Entity, Hub, Kind, ADD_S, SLOTS};
 use hub::hubcalls::output;
 use hub::raw::{RawKind, Table};
 use hub::tags::{from_word, to_word, Tags};
 use hub::text::load;
-use hub::tworuns::{check, random_pair};
+use hub::tworuns::{check, random_pair, Pair, Run};
 
 const E: &str = "slot kind sec int sa sd ia id data\n";
 const G: &str = "tags\n";
@@ -38,7 +40,26 @@ fn hub_of(entities: &[Entity]) -> Hub {
 }
 
 fn need(hub: &Hub, call: Call) -> u64 {
-    u64::from_le_bytes(hub.call(&call).1.record[8..].try_into().unwrap())
+    need_of(&hub.call(&call).1.record)
+}
+
+fn need_of(record: &[u8]) -> u64 {
+    u64::from_le_bytes(record[8..].try_into().unwrap())
+}
+
+/// The nine calls, by a caller and on another slot.
+fn nine(caller: u8, other: u8) -> [Call; 9] {
+    [
+        Call::put(caller, vec![1, 2]),
+        Call::show(caller, vec![9; 64]),
+        Call::send(caller, other),
+        Call::fetch(caller, other),
+        Call::add(caller, 0, 2),
+        Call::drop(caller, 1, 3),
+        Call::create(caller, other, 1),
+        Call::release(caller, other),
+        Call::hand(caller, other, 0, 2),
+    ]
 }
 
 #[test]
@@ -140,9 +161,71 @@ fn the_need() {
     assert_eq!(need(&hub, Call::create(0, 2, 1)), 0b1010, "refused by 4");
     assert_eq!(need(&hub, Call::create(0, 2, 9)), 0b1010, "refused by 2");
     assert_eq!(need(&hub, Call::create(0, 7, 1)), 0b10);
-    assert_eq!(need(&hub, Call::send(2, 0)), 0, "refused by 1");
+    assert_eq!(need(&hub, Call::send(2, 0)), 0b1000, "an item");
+    assert_eq!(need(&hub, Call::send(3, 0)), 0, "a free slot");
     assert_eq!(need(&hub, Call::release(0, 0)), 0b10);
     assert_eq!(need(&hub, Call::fetch(0, 40)), 0b10);
+}
+
+#[test]
+fn the_need_of_an_item_named_as_caller_is_its_s_alone() {
+    let mut probe = item(&[1, 5]);
+    probe.integrity.insert(7);
+    probe.content = vec![1, 2, 3];
+    let mut plain = item(&[]);
+    plain.integrity.insert(8);
+    let mut grower = program(&[1, 2, 5]);
+    grower.rights = [(); 4].map(|_| Tags::from([2, 3]));
+    let mut hub = hub_of(&[probe, plain, item(&[63]), grower, program(&[])]);
+    hub.slots[31] = Some(item(&[0]));
+    let callers = [(0, 0b10_0010), (1, 0), (2, 1 << 63), (31, 1), (9, 0), (30, 0), (32, 0), (64, 0), (255, 0)];
+    for (caller, wanted) in callers {
+        for other in [0, 1, 2, 3, 4, 9, 31, 32, 255] {
+            for call in nine(caller, other) {
+                let (next, answer) = hub.call(&call);
+                assert_eq!((answer.number, need_of(&answer.record)), (1, wanted), "{call:?}");
+                assert_eq!(answer.record[..3], [call.name as u8, caller, call.other.unwrap_or(255)]);
+                assert_eq!((answer.record[4], answer.part, answer.buffer), (0, vec![], call.buffer));
+                assert_eq!(next, hub);
+            }
+        }
+    }
+}
+
+#[test]
+fn an_item_keeps_its_need_where_another_refusal_would_follow() {
+    let hub = hub_of(&[item(&[4])]);
+    for call in [
+        Call::add(0, 0, 64),
+        Call::add(0, 2, 4),
+        Call::create(0, 40, 1),
+        Call::create(0, 0, 9),
+        Call::hand(0, 0, 4, 200),
+        Call::put(0, vec![0; 65]),
+        Call::show(0, vec![]),
+    ] {
+        let answer = hub.call(&call).1;
+        assert_eq!((answer.number, need_of(&answer.record)), (1, 0b1_0000), "{call:?}");
+    }
+}
+
+#[test]
+fn the_need_goes_by_what_stands_in_the_slot_at_the_call() {
+    let put = |hub: &Hub| {
+        let record = hub.call(&Call::put(7, vec![])).1.record;
+        (record[3], need_of(&record))
+    };
+    let mut hub = hub_of(&[program(&[1]), program(&[2])]);
+    assert_eq!(put(&hub), (1, 0), "a free slot");
+    hub = hub.call(&Call::create(0, 7, 1)).0;
+    assert_eq!(put(&hub), (1, 0b10), "an item");
+    hub = hub.call(&Call::release(0, 7)).0;
+    assert_eq!(put(&hub), (1, 0), "free again");
+    hub = hub.call(&Call::create(1, 7, 1)).0;
+    assert_eq!(put(&hub), (1, 0b100), "another item");
+    hub = hub.call(&Call::release(1, 7)).0;
+    hub = hub.call(&Call::create(1, 7, 2)).0;
+    assert_eq!(put(&hub), (0, 0b100), "a program");
 }
 
 #[test]
@@ -221,6 +304,18 @@ fn tables_that_lack_the_form() {
     beyond.groups[7] = u64::MAX;
     assert!(!beyond.lacks_form());
     assert_eq!(beyond.call(&Call::show(3, vec![0; 64])).0, beyond);
+}
+
+#[test]
+fn under_99_the_need_is_empty_for_an_item_too() {
+    let mut table = Table::of_hub(&hub_of(&[item(&[1]), program(&[1])]));
+    table.group_count = 9;
+    for caller in [0, 1, 5, 40] {
+        for call in nine(caller, 1) {
+            let record = table.call(&call).1.record;
+            assert_eq!((record[3], need_of(&record)), (99, 0), "{call:?}");
+        }
+    }
 }
 
 #[test]
@@ -325,5 +420,97 @@ fn two_runs() {
     for index in 0..300 {
         let pair = random_pair(&mut Rng::for_case(11, index));
         assert_eq!(check(&pair), Ok(()), "index {index}");
+    }
+}
+
+/// The claim for tag 5 on two lists of calls, both from this table: a program and an item that
+/// bear it in slots 0 and 1, a program and an item without it in 2 and 3, a program and an item
+/// that bear more in 4 and 5.
+fn claim(a: &[Call], b: &[Call]) -> Result<(), &'static str> {
+    let mut start =
+        hub_of(&[program(&[5]), item(&[5]), program(&[]), item(&[9]), program(&[5, 9]), item(&[5, 9])]);
+    for slot in [0, 2, 4] {
+        start.slots[slot].as_mut().unwrap().rights[ADD_S].insert(2);
+    }
+    let run = |calls: &[Call]| Run { start: start.clone(), calls: calls.to_vec() };
+    check(&Pair { tag: 5, a: run(a), b: run(b) })
+}
+
+const DIFFER: Result<(), &str> = Err("premise: the lists differ in more");
+
+#[test]
+fn calls_of_items_that_bear_the_tag_may_differ() {
+    let common = [Call::put(2, vec![7]), Call::fetch(2, 0), Call::show(3, vec![1; 9])];
+    for bearer in [1, 5] {
+        for other in [0, 1, 2, 3, 4, 5, 20, 31, 32, 255] {
+            let calls = nine(bearer, other);
+            assert_eq!(claim(&calls, &[]), Ok(()));
+            assert_eq!(claim(&common, &[&calls[..4], &common, &calls].concat()), Ok(()));
+            for call in calls {
+                assert_eq!(claim(&[], &[call]), Ok(()));
+            }
+        }
+    }
+}
+
+#[test]
+fn no_other_calls_may_differ() {
+    for caller in [2, 3, 20, 31, 32, 255] {
+        for other in [0, 1, 2, 5, 20, 32] {
+            for call in nine(caller, other) {
+                assert_eq!(claim(&[call.clone()], &[]), DIFFER, "{call:?}");
+            }
+        }
+    }
+    for bearer in [0, 4] {
+        let calls = nine(bearer, bearer);
+        let (content, others) = calls.split_at(4);
+        assert_eq!(claim(content, &[]), Ok(()));
+        for call in others {
+            assert_eq!(claim(&[], &[call.clone()]), DIFFER, "{call:?}");
+        }
+    }
+}
+
+#[test]
+fn whether_a_call_may_differ_goes_by_the_table_that_it_gets() {
+    let call = Call::send(20, 3);
+    let create = |caller| Call::create(caller, 20, 1);
+    assert_eq!(claim(&[create(0), call.clone()], &[create(0)]), Ok(()));
+    assert_eq!(claim(&[call.clone(), create(0)], &[create(0)]), DIFFER, "not there yet");
+    assert_eq!(claim(&[create(2), call.clone()], &[create(2)]), DIFFER, "without the tag");
+    let gone = [create(0), Call::release(0, 20)];
+    assert_eq!(claim(&[&gone[..], &[call]].concat(), &gone), DIFFER, "gone");
+}
+
+#[test]
+fn random_pairs_name_every_kind_of_caller() {
+    const OTHERS_TAGS: &str = "on a slot with more tags";
+    let mut counts: BTreeMap<(&str, &str), usize> = BTreeMap::new();
+    for index in 0..300 {
+        let pair = random_pair(&mut Rng::for_case(12, index));
+        for run in [pair.a, pair.b] {
+            let mut hub = run.start;
+            for call in run.calls {
+                let own = hub.secrecy(call.caller);
+                let who = match hub.entity(call.caller) {
+                    None if call.caller as usize >= SLOTS => "above 31",
+                    None => "free",
+                    Some(entity) if entity.kind == Kind::Program => "program",
+                    Some(_) if own.contains(&pair.tag) => "item with the tag",
+                    Some(_) => "item without it",
+                };
+                *counts.entry((who, call.name.word())).or_default() += 1;
+                if call.other.is_some_and(|other| !hub.secrecy(other).is_subset(&own)) {
+                    *counts.entry((who, OTHERS_TAGS)).or_default() += 1;
+                }
+                hub = hub.call(&call).0;
+            }
+        }
+    }
+    for who in ["above 31", "free", "item with the tag", "item without it"] {
+        for what in Name::ALL.map(Name::word).into_iter().chain([OTHERS_TAGS]) {
+            assert!(counts.get(&(who, what)) > Some(&10), "{what} by {who}: {counts:?}");
+        }
     }
 }

@@ -1,11 +1,12 @@
 //! script_stats DIRECTORY
 //!
-//! Counts what the scripts (*.script) of a directory reach: numbers by command, ways to lack
-//! the form, lengths of buffers, kinds of lists.
+//! Counts what the scripts (*.script) of a directory reach: numbers by command, what stands in
+//! the callers' slots, ways to lack the form, lengths of buffers, kinds of lists.
 
 use std::collections::BTreeMap;
 use std::{env, fs};
 
+use hub::generate::scenes::caller_words;
 use hub::hex;
 use hub::hub::{MOST_CONTENT, MOST_GROUPS};
 use hub::raw::{RawKind, Table};
@@ -59,6 +60,10 @@ fn count_line(counts: &mut Counts, state: &mut State, line: &str) {
     let number: u8 = answer[0].parse().expect("a number");
     count(format!("number {number:02}"));
     count(format!("number {number:02} of {command}"));
+    if !["audit", "load"].contains(&command) {
+        let caller = caller_words(&table, words[1].parse().expect("a slot"));
+        count(format!("number {} for {caller}", if number == 99 { "99" } else { "00 to 11" }));
+    }
     let length = |hex: &str| if hex == "-" { 0 } else { hex.len() / 2 };
     let (part, buffer) = (length(answer[2]), length(answer[3]));
     let fit = match number {

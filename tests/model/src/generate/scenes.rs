@@ -112,6 +112,17 @@ pub fn call_line(call: &Call) -> String {
     line + "\n"
 }
 
+/// What stands in a caller's slot, for counts of what input reaches.
+pub fn caller_words(table: &Table, caller: u8) -> &'static str {
+    match table.entities.get(caller as usize) {
+        None => "a slot above 31",
+        Some(RawEntity { kind: RawKind::Free, .. }) => "a free slot",
+        Some(RawEntity { kind: RawKind::Program, .. }) => "a program",
+        Some(RawEntity { secrecy: 0, .. }) => "an item without a tag in S",
+        Some(_) => "an item with a tag in S",
+    }
+}
+
 /// The table of a random accepted hub, at times with words beyond the group count, and the tags
 /// that most of its labels are drawn from.
 fn table(rng: &mut Rng, entities: usize) -> (Table, Vec<u8>) {

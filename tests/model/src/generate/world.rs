@@ -104,6 +104,10 @@ fn slots_where(hub: &Hub, test: impl Fn(u8, &Entity) -> bool) -> Vec<u8> {
     (0..SLOTS as u8).filter(|slot| hub.entity(*slot).is_some_and(|e| test(*slot, e))).collect()
 }
 
+fn free_slots(hub: &Hub) -> Vec<u8> {
+    (0..SLOTS as u8).filter(|slot| hub.entity(*slot).is_none()).collect()
+}
+
 fn any_of(rng: &mut Rng, slots: &[u8]) -> Option<u8> {
     (!slots.is_empty()).then(|| rng.pick(slots))
 }
@@ -116,10 +120,20 @@ fn high_slot(rng: &mut Rng) -> u8 {
 /// A random caller, mostly a program.
 pub fn caller(rng: &mut Rng, hub: &Hub) -> u8 {
     let programs = slots_where(hub, |_, entity| entity.kind == Kind::Program);
-    let likely = if rng.chance(93) { any_of(rng, &programs) } else { None };
-    let low = rng.below(SLOTS) as u8;
-    let high = high_slot(rng);
-    likely.unwrap_or(if rng.chance(70) { low } else { high })
+    let likely = if rng.chance(86) { any_of(rng, &programs) } else { None };
+    likely.unwrap_or_else(|| failing_caller(rng, hub))
+}
+
+/// A random caller that is no program: an item, a free slot or one above 31.
+pub fn failing_caller(rng: &mut Rng, hub: &Hub) -> u8 {
+    let items = slots_where(hub, |_, entity| entity.kind == Kind::Item);
+    let free = free_slots(hub);
+    let low = match rng.below(4) {
+        0..=1 => any_of(rng, &items),
+        2 => any_of(rng, &free),
+        _ => None,
+    };
+    low.unwrap_or_else(|| high_slot(rng))
 }
 
 /// A random call that suits the hub; `buffer` is the length lent to a show.
@@ -212,15 +226,16 @@ fn tag(rng: &mut Rng, hub: &Hub, pool: &[u8], call: &Call) -> u8 {
     }
 }
 
+/// A random other, often one that suits the call; labels count only where the caller is a program.
 fn other(rng: &mut Rng, hub: &Hub, name: Name, caller: u8) -> u8 {
     let me = hub.program(caller);
     let likely: Vec<u8> = match name {
-        Name::Send => slots_where(hub, |slot, o| slot != caller && me.is_some_and(|c| flow(c, o))),
-        Name::Fetch => slots_where(hub, |slot, o| slot != caller && me.is_some_and(|c| flow(o, c))),
-        Name::Create => (0..SLOTS as u8).filter(|slot| hub.entity(*slot).is_none()).collect(),
+        Name::Send => slots_where(hub, |slot, o| slot != caller && me.is_none_or(|c| flow(c, o))),
+        Name::Fetch => slots_where(hub, |slot, o| slot != caller && me.is_none_or(|c| flow(o, c))),
+        Name::Create => free_slots(hub),
         Name::Release => slots_where(hub, |_, o| {
             let same = |c: &Entity| c.secrecy == o.secrecy && c.integrity == o.integrity;
-            o.kind == Kind::Item && me.is_some_and(same)
+            o.kind == Kind::Item && me.is_none_or(same)
         }),
         _ => slots_where(hub, |_, o| o.kind == Kind::Program),
     };
