@@ -1,21 +1,24 @@
 -- 'Two runs' at the watering round and the probe's.
 -- Assumes nothing.
-use mathlib.Core.Path.{◌≡◌, refl, sym, ◌∙◌}
+use mathlib.Core.Path.{◌≡◌, refl, ap, sym, ◌∙◌}
 use mathlib.Core.Bool.{Bool, true, false, cond, false≢true}
 use mathlib.Core.List.{[], ◌∷◌, map}
 use Prim.Native.Nat.{ℕ}
+use native.Mathlib.Omega.{arith}
 use lib.Dec.{ltb, eqb}
-use Rattle.rules.specs.Table.{Slot, plain, free, at, accepted}
+use Rattle.rules.specs.Table.{Slot, plain, free, at, accepted, Rights, no_rights}
 use Rattle.rules.specs.Calls.{fetch, add_tag, drop_tag}
 use Rattle.rules.specs.Refusals.{step}
-use Rattle.rules.specs.Runs.{bears, hidden_at, kept, struck, struck_of_programs, SlotsAgree}
+use Rattle.rules.specs.Runs.{Hidden, bears, hidden_at, kept, struck, struck_of_programs, SlotsAgree}
+use Rattle.rules.specs.Claims.{SecretRuns}
 use Rattle.rules.proofs.Facts.{either}
 use Rattle.rules.proofs.Plain.{plain_laws}
 use Rattle.label.specs.Tags.{tag_of, empty, has_tag}
 use Rattle.label.specs.Words.{words}
-use Rattle.cases.specs.Rounds.{calls_made, round_table, round, probe_table, probe, other_table, longer, TwoRunsHold}
+use Rattle.cases.specs.Rounds.{calls_made, round_table, round, probe_table, probe, other_table, longer, TwoRunsHold, without_probe}
 use Rattle.cases.proofs.Sure.{kept_sure}
-use Rattle.cases.proofs.Cases.{computed}
+use Rattle.cases.proofs.Cases.{computed, probe_holds}
+use Rattle.cases.proofs.Claims.{words-secrecy}
 
 -- nobody of the round has the right to drop the tag
 undroppable : (i : ℕ) → has_tag (at (plain words) round_table i).rights.sd 0 ≡ false
@@ -28,7 +31,7 @@ undroppable i = either (ltb i 32) (λ e. rw e (go (eqb i 0) (eqb i 1) (eqb i 2))
     go false false true = refl
     go false false false = refl
 
-agree_same : (i : ℕ) (a : Slot words) → SlotsAgree (bears words 0) i a a
+agree_same : {H : Hidden words} (i : ℕ) (a : Slot words) → SlotsAgree H i a a
 agree_same i a = record { kind = refl; sec = refl; int = refl; rights = refl; content = λ h. refl }
 
 agree : (i : ℕ) → SlotsAgree (bears words 0) i (at (plain words) round_table i) (at (plain words) other_table i)
@@ -62,14 +65,47 @@ hidden_are : map (hidden_at (plain words) (bears words 0) round_table) (0 ∷ 1 
 unfolding computed
 hidden_are = refl
 
+-- nobody of the probe's round has any right
+rightless : (i : ℕ) → (at (plain words) probe_table i).rights ≡ no_rights {A = words}
+unfolding tag_of empty
+rightless i = either (ltb i 32) (λ e. rw e (go (eqb i 0) (eqb i 1) (eqb i 2) (eqb i 3) (eqb i 4))) (λ e. rw e)
+  where
+    go : (v w x y z : Bool) → (cond v (probe_table.slots 0) (cond w (probe_table.slots 1) (cond x (probe_table.slots 2) (cond y (probe_table.slots 3) (cond z (probe_table.slots 4) free))))).rights ≡ no_rights {A = words}
+    go true w x y z = refl
+    go false true x y z = refl
+    go false false true y z = refl
+    go false false false true z = refl
+    go false false false false true = refl
+    go false false false false false = refl
+
+items-kept : kept (step (plain words)) (struck (plain words) (bears words 9)) probe_table (calls_made probe) ≡ without_probe
+unfolding computed
+items-kept = kept_sure (plain words) (plain_laws words) (struck (plain words) (bears words 9)) probe_table (calls_made probe) refl
+
+without-kept : kept (step (plain words)) (struck (plain words) (bears words 9)) probe_table without_probe ≡ without_probe
+unfolding computed
+without-kept = kept_sure (plain words) (plain_laws words) (struck (plain words) (bears words 9)) probe_table without_probe refl
+
+probe-premise : SecretRuns (plain words) (struck (plain words) (bears words 9)) 9 probe_table probe_table (calls_made probe) without_probe
+unfolding tag_of empty has_tag
+probe-premise = record {
+  left = probe_holds.accepted;
+  right = probe_holds.accepted;
+  undroppable = λ i p. ap (λ (r : Rights words). has_tag r.sd 9) (rightless i);
+  tables = record { slots = λ i. agree_same i (at (plain words) probe_table i); groups = refl };
+  calls = items-kept ∙ sym without-kept;
+}
+
 pub two_runs_hold : TwoRunsHold
 unfolding computed
 two_runs_hold = record {
   of_programs = round-kept;
-  of_items = kept_sure (plain words) (plain_laws words) (struck (plain words) (bears words 9)) probe_table (calls_made probe) refl;
-  letter_of_programs = kept_sure (plain words) (plain_laws words) (struck_of_programs (plain words) (bears words 0)) round_table (calls_made round) refl;
-  letter_of_items = kept_sure (plain words) (plain_laws words) (struck_of_programs (plain words) (bears words 9)) probe_table (calls_made probe) refl;
+  of_items = items-kept;
+  programs_alone = kept_sure (plain words) (plain_laws words) (struck_of_programs (plain words) (bears words 0)) round_table (calls_made round) refl;
+  programs_alone_at_the_probe = kept_sure (plain words) (plain_laws words) (struck_of_programs (plain words) (bears words 9)) probe_table (calls_made probe) refl;
   hidden = hidden_are;
   answered = λ c h. rw h;
   premise = record { left = round-accepted; right = other-accepted; undroppable = λ i p. undroppable i; tables = record { slots = agree; groups = refl }; calls = round-kept ∙ sym other-kept };
+  premise_of_items = probe-premise;
+  undisclosed = words-secrecy 9 (omega arith) probe_table probe_table (calls_made probe) without_probe probe-premise;
 }

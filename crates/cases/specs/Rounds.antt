@@ -12,7 +12,7 @@ use Rattle.rules.specs.Calls.{Call, put, show, send, fetch, add_tag, drop_tag, c
 use Rattle.rules.specs.Refusals.{step}
 use Rattle.rules.specs.Record.{answer, Audit, audit}
 use Rattle.rules.specs.Runs.{bears, final, trace, kept, hidden_at, struck, struck_of_programs, heard, records}
-use Rattle.rules.specs.Claims.{SecretRuns}
+use Rattle.rules.specs.Claims.{SecretRuns, Undisclosed}
 use Rattle.label.specs.Tags.{label_of}
 use Rattle.label.specs.Words.{words}
 use Rattle.cases.specs.Hex.{hex}
@@ -226,7 +226,7 @@ pub record AuditsHold : Type 0 where
     buffer = hex "0501ff00000c010000000000000000000200ff0003ffff0000000000000000000801010000ffff000000000000000000";
   }
   pub some_short : audited second_table second 0 (replicate 47 0xee) ≡ refused NoRoomForRecords (replicate 47 0xee)
-  -- of the probe's round by slot 1, which bears no tag: the calls by the item without a tag and by the two slots that hold nothing
+  -- of the probe's round by slot 1, which bears no tag: the calls by the item without a tag, by the free slot and by the number above 31
   pub probe_without : audited probe_table probe 1 (replicate 48 0xee) ≡ record {
     outcome = Ok tt;
     part = hex "0303040100ffff0000000000000000000407020100ffff0000000000000000000328020100ffff000000000000000000";
@@ -245,16 +245,23 @@ other_table = now 0 (entity Program 1 0 0 0 0 0 (hex "ff")) round_table
 abbrev pub longer : List (Call words)
 longer = put 0 (hex "11") ∷ send 0 2 ∷ calls_made round
 
+-- the probe's round without the calls by the item that bears the tag
+abbrev pub without_probe : List (Call words)
+without_probe = send 3 4 ∷ fetch 7 2 ∷ send 40 2 ∷ fetch 1 2 ∷ create 4 2 1 ∷ []
+
 pub record TwoRunsHold : Type 0 where
   -- a put, show, send or fetch by a program bearing the tag is struck out, also a refused one
   pub of_programs : kept (step P) (struck P (bears words 0)) round_table (calls_made round) ≡ fetch 1 0 ∷ add_tag 1 0 0 ∷ drop_tag 1 0 0 ∷ []
-  -- of the probe's round and tag 9, every call by the item that bears the tag, and none by another
-  pub of_items : kept (step P) (struck P (bears words 9)) probe_table (calls_made probe) ≡ send 3 4 ∷ fetch 7 2 ∷ send 40 2 ∷ fetch 1 2 ∷ create 4 2 1 ∷ []
+  -- of the probe's round, every call by the item that bears the tag, and none by another
+  pub of_items : kept (step P) (struck P (bears words 9)) probe_table (calls_made probe) ≡ without_probe
   -- to the letter of demand 3 the same of programs, and none of items
-  pub letter_of_programs : kept (step P) (struck_of_programs P (bears words 0)) round_table (calls_made round) ≡ fetch 1 0 ∷ add_tag 1 0 0 ∷ drop_tag 1 0 0 ∷ []
-  pub letter_of_items : kept (step P) (struck_of_programs P (bears words 9)) probe_table (calls_made probe) ≡ calls_made probe
+  pub programs_alone : kept (step P) (struck_of_programs P (bears words 0)) round_table (calls_made round) ≡ fetch 1 0 ∷ add_tag 1 0 0 ∷ drop_tag 1 0 0 ∷ []
+  pub programs_alone_at_the_probe : kept (step P) (struck_of_programs P (bears words 9)) probe_table (calls_made probe) ≡ calls_made probe
   -- slot 0 bears tag 0; slot 1, the item in 2, the free slot 7 and the number 40 do not, and their calls are answered
   pub hidden : map (hidden_at P (bears words 0) round_table) (0 ∷ 1 ∷ 2 ∷ 7 ∷ 40 ∷ []) ≡ true ∷ false ∷ false ∷ false ∷ false ∷ []
   pub answered : (c : Call words) → hidden_at P (bears words 0) round_table (caller_of c) ≡ false → heard P (bears words 0) round_table c ≡ answer P round_table c ∷ []
   -- the premise of demand 3 is met by two tables and two lists that differ
   pub premise : SecretRuns P (struck P (bears words 0)) 0 round_table other_table (calls_made round) longer
+  -- and by the probe's round and the round without the probe's calls: who lacks its tag is told the same by both
+  pub premise_of_items : SecretRuns P (struck P (bears words 9)) 9 probe_table probe_table (calls_made probe) without_probe
+  pub undisclosed : Undisclosed P 9 probe_table probe_table (calls_made probe) without_probe

@@ -11,8 +11,8 @@ use Rattle.rules.specs.Record.{audit}
 use Rattle.rules.proofs.Refused.{refusals_move_nothing, refused_audits_move_nothing, parts_fit}
 use Rattle.rules.proofs.Groups.{stays_accepted}
 use Rattle.rules.proofs.Shows.{records_show}
-use Rattle.rules.proofs.Secrecy.{secrecy, secrecy_of_programs, secrecy_undropped}
-use Rattle.rules.proofs.ByNumber.{list_by_number, needless_by_number, items_refused, record-bytes}
+use Rattle.rules.proofs.Secrecy.{secrecy, secrecy_of_programs, others_are_heard, secrecy_undropped}
+use Rattle.rules.proofs.ByNumber.{list_by_number, struck_by_number, need_by_number, items_refused, record-bytes}
 use Rattle.rules.proofs.Effects.{calls_leave, rights_needed}
 use Rattle.rules.proofs.Audits.{audit-by-number, runs_audited}
 use Rattle.label.proofs.Words.{words_order, words_tag}
@@ -57,12 +57,14 @@ at_hub = record {
   secrecy = λ p l. secrecy p (words_tag p l) words_order hub hub_laws;
   items_refused = items_refused hub;
   secrecy_of_programs = λ p l. secrecy_of_programs p (words_tag p l) words_order hub hub_laws;
+  others_heard = λ p l. others_are_heard p (words_tag p l) words_order hub hub_laws;
   secrecy_undropped = λ p l. secrecy_undropped p (words_tag p l) words_order hub hub_laws;
   list = list_by_number hub;
   effects = calls_leave words_order hub hub_laws;
   rights = rights_needed hub;
   bytes = record-bytes hub;
-  needless = needless_by_number hub;
+  need = need_by_number hub;
+  struck = struck_by_number hub;
   audits = audit-by-number hub;
   runs_audited = runs_audited words_order hub;
 }

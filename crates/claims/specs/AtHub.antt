@@ -9,8 +9,8 @@ use Rattle.rules.specs.Table.{Slot}
 use Rattle.rules.specs.Calls.{Call, show, moved, is_show, lent}
 use Rattle.rules.specs.Refusals.{step}
 use Rattle.rules.specs.Record.{answer, audit}
-use Rattle.rules.specs.Claims.{RefusalsMoveNothing, RefusedAuditsMoveNothing, PartsFit, StaysAccepted, RecordsShow, Secrecy, ItemsRefused, SecrecyOfPrograms, SecrecyUndropped}
-use Rattle.rules.specs.ByNumber.{ListByNumber, NeedlessByNumber, RecordBytes}
+use Rattle.rules.specs.Claims.{RefusalsMoveNothing, RefusedAuditsMoveNothing, PartsFit, StaysAccepted, RecordsShow, Secrecy, ItemsRefused, SecrecyOfPrograms, OthersAreHeard, SecrecyUndropped}
+use Rattle.rules.specs.ByNumber.{ListByNumber, StruckByNumber, NeedByNumber, RecordBytes}
 use Rattle.rules.specs.Effects.{CallsLeave, RightsNeeded}
 use Rattle.rules.specs.Audits.{AuditByNumber, RunsAudited}
 use Rattle.label.specs.Calls.{call_with}
@@ -63,11 +63,13 @@ pub record AtHub : Type 0 where
   pub secrecy : (p : ℕ) → p < 64 → Secrecy hub p
   pub items_refused : ItemsRefused hub
   pub secrecy_of_programs : (p : ℕ) → p < 64 → SecrecyOfPrograms hub p
+  pub others_heard : (p : ℕ) → p < 64 → OthersAreHeard hub p
   pub secrecy_undropped : (p : ℕ) → p < 64 → SecrecyUndropped hub p
   pub list : ListByNumber hub
   pub effects : CallsLeave hub
   pub rights : RightsNeeded hub
   pub bytes : RecordBytes hub
-  pub needless : NeedlessByNumber hub
+  pub need : NeedByNumber hub
+  pub struck : StruckByNumber hub
   pub audits : AuditByNumber hub
   pub runs_audited : RunsAudited hub

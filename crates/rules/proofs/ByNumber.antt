@@ -10,11 +10,12 @@ use Rattle.rules.specs.declared.Kind.{Kind}
 use Rattle.rules.specs.declared.Kind.TheVariants.{Free, Item, Program}
 use Rattle.rules.specs.Labels.{Labels}
 use Rattle.rules.specs.Table.{is_free, is_item, is_program, Slot, Tables, at}
-use Rattle.rules.specs.Calls.{Call, put, show, send, fetch, add_tag, drop_tag, create, release, hand, fields_of, caller_of, other_of}
+use Rattle.rules.specs.Calls.{Call, put, show, send, fetch, add_tag, drop_tag, create, release, hand, fields_of, caller_of, other_of, moves_content}
 use Rattle.rules.specs.Refusals.{Refusals, allow, ◌if◌else◌, first, number_of, refusals, verdict, step}
 use Rattle.rules.specs.Record.{need_by}
+use Rattle.rules.specs.Runs.{hides, may_differ}
 use Rattle.rules.specs.Claims.{ItemsRefused}
-use Rattle.rules.specs.ByNumber.{among, by_number, ListByNumber, FlowIgnoresRights, KindsMove, passing, NumbersListed, NeedlessByNumber, RecordBytes}
+use Rattle.rules.specs.ByNumber.{among, by_number, ListByNumber, FlowIgnoresRights, KindsMove, passing, NumbersListed, StruckByNumber, NeedByNumber, RecordBytes}
 use Rattle.rules.specs.Numbers.{Outcome, number}
 use Rattle.rules.proofs.Facts.{not-true, and_left, and_right, neither_left, neither_right, all_numbers}
 use Rattle.rules.specs.declared.Refusal.TheVariants.{NoProgram, Formless}
@@ -67,16 +68,30 @@ pub numbers_listed : NumbersListed
 unfolding passing
 numbers_listed = record { calls = refl; audits = refl }
 
+pub struck_by_number : {A : Labels} (T : Tables A) → StruckByNumber T
+struck_by_number T H t c = let m = (kinds_move c).moves in record {
+  all = go (at T t (caller_of c)).kind m;
+  of_programs = ap (λ (b : Bool). hides H (caller_of c) (at T t (caller_of c)) && (is_program (at T t (caller_of c)).kind && b)) m;
+}
+  where
+    h : Bool
+    h = hides H (caller_of c) (at T t (caller_of c))
+
+    go : (k : Kind) {n : Bool} → moves_content c ≡ n → h && may_differ k c ≡ h && (is_item k || (is_program k && n))
+    go Free e = refl
+    go Item e = refl
+    go Program e = ap (λ (b : Bool). h && b) e
+
 -- ---- 1 and 99
 
-abbrev needless : ℕ → Bool
-needless n = among (1 ∷ 99 ∷ []) n
+abbrev one_or_99 : ℕ → Bool
+one_or_99 n = among (1 ∷ 99 ∷ []) n
 
 -- none of a cascade's numbers is one of the two
-others : (r : Refusals) → all_numbers (λ n. not (needless n)) r ≡ true → needless (number_of (first r)) ≡ false
+others : (r : Refusals) → all_numbers (λ n. not (one_or_99 n)) r ≡ true → one_or_99 (number_of (first r)) ≡ false
 others allow h = refl
-others (n if true else r) h = not-true (needless (number n)) (and_left (not (needless (number n))) _ h)
-others (n if false else r) h = others r (and_right (not (needless (number n))) _ h)
+others (n if true else r) h = not-true (one_or_99 (number n)) (and_left (not (one_or_99 (number n))) _ h)
+others (n if false else r) h = others r (and_right (not (one_or_99 (number n))) _ h)
 
 -- the cascade of a call behind its 1
 abbrev behind : Refusals → Refusals
@@ -95,7 +110,7 @@ module _ {A : Labels} where
   begins gs a b (release i j) = refl
   begins gs a b (hand i j n p) = refl
 
-  goes_on : (gs : List A.Group) (a b : Slot A) (c : Call A) → all_numbers (λ n. not (needless n)) (behind (refusals gs a b c)) ≡ true
+  goes_on : (gs : List A.Group) (a b : Slot A) (c : Call A) → all_numbers (λ n. not (one_or_99 n)) (behind (refusals gs a b c)) ≡ true
   goes_on gs a b (put i bs) = refl
   goes_on gs a b (show i buf) = refl
   goes_on gs a b (send i j) = refl
@@ -115,7 +130,7 @@ module _ {A : Labels} where
       verdict_begins : verdict T t c ≡ first (Formless if not (T.formed t) else NoProgram if not (is_program (at T t (caller_of c)).kind) else rest)
       verdict_begins = ap (λ (r : Refusals). first (Formless if not (T.formed t) else r)) (begins (T.groups t) (at T t (caller_of c)) (at T t (other_of c)) c)
 
-      neither : needless (number_of (first rest)) ≡ false
+      neither : one_or_99 (number_of (first rest)) ≡ false
       neither = others rest (goes_on (T.groups t) (at T t (caller_of c)) (at T t (other_of c)) c)
 
       pub is_99 : eqb (number_of (verdict T t c)) 99 ≡ not (T.formed t)
@@ -134,8 +149,8 @@ module _ {A : Labels} where
           go true false = refl
           go true true = neither_left (eqb (number_of (first rest)) 1) _ neither
 
-    pub needless_by_number : NeedlessByNumber T
-    needless_by_number t c = record {
+    pub need_by_number : NeedByNumber T
+    need_by_number t c = record {
       is_99 = is_99 t c;
       is_1 = is_1 t c;
       need_99 = λ e. rw (not_formed e);

@@ -18,7 +18,7 @@ use Rattle.rules.specs.Refusals.{first, on_allowed, refusals, verdict, step}
 use Rattle.rules.specs.Record.{need_by, need_of, answer, visible, record_size, records_in, shown_of, auditable, audit_refusals}
 use Rattle.rules.specs.Runs.{Hidden, bears, TablesAgree, may_differ, final, never, hidden_at, struck, struck_of_programs, heard, records}
 use Rattle.rules.specs.Laws.{OrderLaws, TagLaws, TableLaws}
-use Rattle.rules.specs.Claims.{AuditsAlike, SecretRuns, Secrecy, SecrecyOfPrograms, drops_tag, UndroppedRuns, SecrecyUndropped}
+use Rattle.rules.specs.Claims.{AuditsAlike, SecretRuns, Secrecy, SecrecyOfPrograms, OthersAreHeard, drops_tag, UndroppedRuns, SecrecyUndropped}
 use Rattle.rules.proofs.Facts.{not-false, not-true, not_of, and_left, and_right, both, contra, either, condition}
 use Rattle.rules.proofs.Steps.{pass, at_formed, written_at, step_formed}
 use Rattle.rules.proofs.Shows.{shows}
@@ -258,8 +258,8 @@ module _ {A : Labels} (p : A.Tag) (G : TagLaws A p) (O : OrderLaws A) (T : Table
       go (Err n) e = refl
       go (Ok _) e = takes_not p G (T.groups t) (at T t (caller_of c)) (at T t (other_of c)) c (s (caller_of c)) (pass T t c e).off
 
-  undropped_runs : (out : T.Table → Call A → Bool) (t u : T.Table) (cs ds : List (Call A)) → SecretRuns T out p t u cs ds → UndroppedRuns T out p t u cs ds
-  undropped_runs out t u cs ds s = record {
+  undropped_runs : (differs : T.Table → Call A → Bool) (t u : T.Table) (cs ds : List (Call A)) → SecretRuns T differs p t u cs ds → UndroppedRuns T differs p t u cs ds
+  undropped_runs differs t u cs ds s = record {
     left = s.left;
     right = s.right;
     undropped_left = never-dropped t cs f safe;
@@ -288,3 +288,11 @@ module _ {A : Labels} (p : A.Tag) (G : TagLaws A p) (O : OrderLaws A) (T : Table
     where
       r : UndroppedRuns T (struck_of_programs T H) p t u cs ds
       r = undropped_runs (struck_of_programs T H) t u cs ds s
+
+  pub others_are_heard : OthersAreHeard T p
+  others_are_heard t = record { answered = λ c h. rw (lacking (at T t (caller_of c)).kind h); auditor = λ i h. lacking (at T t i).kind h }
+    where
+      lacking : (k : Kind) {b : Bool} → b ≡ false → not (is_free k) && b ≡ false
+      lacking Free h = refl
+      lacking Item h = h
+      lacking Program h = h

@@ -1,6 +1,6 @@
 -- What is claimed of the hub's rules, for the tables T. The proofs are under proofs/, for any labels and tables with the laws.
 -- Assumes nothing.
-use Rattle.std.specs.Prelude.{◌≡◌, Bool, true, false, not, ◌&&◌, ◌||◌, List, [], ℕ, ◌≤◌, ltb, leb, eqb, length, get_or, Err}
+use Rattle.std.specs.Prelude.{◌≡◌, Bool, true, false, not, ◌&&◌, ◌||◌, List, [], ◌∷◌, ℕ, ◌≤◌, ltb, leb, eqb, length, get_or, Err}
 use Rattle.rules.specs.declared.Refusal.{Refusal}
 use Rattle.rules.specs.declared.Refusal.TheVariants.{NoProgram}
 use Rattle.rules.specs.Numbers.{number}
@@ -86,12 +86,12 @@ module _ {A : Labels} (T : Tables A) where
 
   -- A secrecy tag p that no program of the starting table has the right to drop. Two accepted tables that differ only in
   -- the contents of entities bearing it, and two lists of calls, the same once those that may differ are struck out of each
-  pub record SecretRuns (out : T.Table → Call A → Bool) (p : A.Tag) (t u : T.Table) (cs ds : List (Call A)) : Type 0 where
+  pub record SecretRuns (differs : T.Table → Call A → Bool) (p : A.Tag) (t u : T.Table) (cs ds : List (Call A)) : Type 0 where
     pub left : accepted T t ≡ true
     pub right : accepted T u ≡ true
     pub undroppable : (i : ℕ) → is_program (at T t i).kind ≡ true → A.has (at T t i).rights.sd p ≡ false
     pub tables : TablesAgree T (bears A p) t u
-    pub calls : kept (step T) out t cs ≡ kept (step T) out u ds
+    pub calls : kept (step T) differs t cs ≡ kept (step T) differs u ds
 
   -- Nobody without the tag learns anything: not from the tables and answers, and not from an audit, into buffers of one
   -- length, by a caller who is without it in the end tables (their labels are the same)
@@ -105,14 +105,23 @@ module _ {A : Labels} (T : Tables A) where
   abbrev pub Secrecy : A.Tag → Type 0
   Secrecy p = (t u : T.Table) (cs ds : List (Call A)) → SecretRuns (struck T (bears A p)) p t u cs ds → Undisclosed p t u cs ds
 
-  -- Such a call by an item fails: in a table in form 1 refuses every call whose caller is an item
+  -- Such a call by an item fails: in a table in form, every call whose caller is an item is refused by 1
   abbrev pub ItemsRefused : Type 0
   ItemsRefused = (t : T.Table) (c : Call A) → T.formed t ≡ true → is_item (at T t (caller_of c)).kind ≡ true → verdict T t c ≡ Err NoProgram
 
-  -- Demand 3 to the letter, where the calls of programs alone may differ. It follows from Secrecy: lists that are the same without
-  -- fewer calls are the same without more, since the same calls of both are struck out
+  -- Demand 3 to the letter, where the calls of programs alone may differ. It follows from Secrecy: lists that agree once these are
+  -- struck out agree too once the items' calls are, since at each call that both lists keep, the two tables have the same items with
+  -- the same labels
   abbrev pub SecrecyOfPrograms : A.Tag → Type 0
   SecrecyOfPrograms p = (t u : T.Table) (cs ds : List (Call A)) → SecretRuns (struck_of_programs T (bears A p)) p t u cs ds → Undisclosed p t u cs ds
+
+  -- Whoever lacks the tag is answered, and may be the auditor
+  pub record OthersHeard (p : A.Tag) (t : T.Table) : Type 0 where
+    pub answered : (c : Call A) → A.has (at T t (caller_of c)).sec p ≡ false → heard T (bears A p) t c ≡ answer T t c ∷ []
+    pub auditor : (i : ℕ) → A.has (at T t i).sec p ≡ false → hidden_at T (bears A p) t i ≡ false
+
+  abbrev pub OthersAreHeard : A.Tag → Type 0
+  OthersAreHeard p = (t : T.Table) → OthersHeard p t
 
   -- ---- Demand 3 whatever rights there are
 
@@ -122,13 +131,13 @@ module _ {A : Labels} (T : Tables A) where
 
   -- As in SecretRuns, but programs may have and hand on the right to drop the tag: only, no allowed drop of it from S is in either
   -- run
-  pub record UndroppedRuns (out : T.Table → Call A → Bool) (p : A.Tag) (t u : T.Table) (cs ds : List (Call A)) : Type 0 where
+  pub record UndroppedRuns (differs : T.Table → Call A → Bool) (p : A.Tag) (t u : T.Table) (cs ds : List (Call A)) : Type 0 where
     pub left : accepted T t ≡ true
     pub right : accepted T u ≡ true
     pub undropped_left : never (step T) (drops_tag p) t cs ≡ true
     pub undropped_right : never (step T) (drops_tag p) u ds ≡ true
     pub tables : TablesAgree T (bears A p) t u
-    pub calls : kept (step T) out t cs ≡ kept (step T) out u ds
+    pub calls : kept (step T) differs t cs ≡ kept (step T) differs u ds
 
   -- Changes of labels are explicit (003, 3.4.2): a right that is not used discloses nothing. Secrecy follows from it
   abbrev pub SecrecyUndropped : A.Tag → Type 0
