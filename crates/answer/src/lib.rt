@@ -30,7 +30,8 @@ pub struct Effect {
     pub moved: usize,
 }
 
-// The need by the caller's kind, where `was` and `is` are its S before and after the call and `other` is the other's.
+// The need by the caller's kind, where `was` and `is` are its S before and after the call and `other` is the S of the other's
+// slot before it.
 fn need_by(kind: Kind, was: Label, is: Label, other: Label) -> Label
     ensures { result ≡ need_by words kind was is other }
 {
