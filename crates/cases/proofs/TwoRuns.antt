@@ -66,9 +66,9 @@ unfolding computed
 hidden_are = refl
 
 -- nobody of the probe's round has any right
-rightless : (i : ℕ) → (at (plain words) probe_table i).rights ≡ no_rights {A = words}
+no_right_at : (i : ℕ) → (at (plain words) probe_table i).rights ≡ no_rights {A = words}
 unfolding tag_of empty
-rightless i = either (ltb i 32) (λ e. rw e (go (eqb i 0) (eqb i 1) (eqb i 2) (eqb i 3) (eqb i 4))) (λ e. rw e)
+no_right_at i = either (ltb i 32) (λ e. rw e (go (eqb i 0) (eqb i 1) (eqb i 2) (eqb i 3) (eqb i 4))) (λ e. rw e)
   where
     go : (v w x y z : Bool) → (cond v (probe_table.slots 0) (cond w (probe_table.slots 1) (cond x (probe_table.slots 2) (cond y (probe_table.slots 3) (cond z (probe_table.slots 4) free))))).rights ≡ no_rights {A = words}
     go true w x y z = refl
@@ -91,7 +91,7 @@ unfolding tag_of empty has_tag
 probe-premise = record {
   left = probe_holds.accepted;
   right = probe_holds.accepted;
-  undroppable = λ i p. ap (λ (r : Rights words). has_tag r.sd 9) (rightless i);
+  undroppable = λ i p. ap (λ (r : Rights words). has_tag r.sd 9) (no_right_at i);
   tables = record { slots = λ i. agree_same i (at (plain words) probe_table i); groups = refl };
   calls = items-kept ∙ sym without-kept;
 }
