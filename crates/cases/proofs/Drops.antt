@@ -12,6 +12,7 @@ use Rattle.rules.specs.Table.{Tables, at}
 use Rattle.rules.specs.Calls.{Call, put, show, send, fetch, add_tag, drop_tag, create, release, hand, kind_of, caller_of}
 use Rattle.rules.specs.Refusals.{verdict}
 use Rattle.rules.specs.Laws.{TableLaws}
+use Rattle.rules.specs.Runs.{call, preview}
 use Rattle.rules.specs.Claims.{drops_tag}
 use Rattle.rules.proofs.Facts.{and_right}
 use Rattle.rules.proofs.Steps.{pass, written_at}
@@ -37,14 +38,15 @@ dropped_is p q a l e = go (eqb p q) refl (rw (without_has q a p l) at e)
 
 module _ (T : Tables words) (L : TableLaws T) where
   pub drops_named : DropsNamed T
-  drops_named p l t c e = go c (verdict T t c) refl e
+  drops_named p l t (preview c) e = absurd (false≢true e)
+  drops_named p l t (call c) e = go c (verdict T t c) refl e
     where
       drop : (i n q : ℕ) → verdict T t (drop_tag i n q) ≡ Ok tt → (b : Bool) → eqb n 0 ≡ b
-          → has_tag (at T t i).sec p && not (has_tag (cond b (without_tag (at T t i).sec q) (at T t i).sec) p) ≡ true → NamedDrop T p t (drop_tag i n q)
-      drop i n q a true z h = record { allowed = a; kind = refl; set = eqb-true n 0 z; tag = ap some (dropped_is p q (at T t i).sec l h) }
+          → has_tag (at T t i).sec p && not (has_tag (cond b (without_tag (at T t i).sec q) (at T t i).sec) p) ≡ true → NamedDrop T p t (call (drop_tag i n q))
+      drop i n q a true z h = record { made = refl; allowed = a; kind = refl; set = eqb-true n 0 z; tag = ap some (dropped_is p q (at T t i).sec l h) }
       drop i n q a false z h = no_set (has_tag (at T t i).sec p) h
 
-      go : (c : Call words) (v : Outcome) → verdict T t c ≡ v → drops_tag T p t c ≡ true → NamedDrop T p t c
+      go : (c : Call words) (v : Outcome) → verdict T t c ≡ v → drops_tag T p t (call c) ≡ true → NamedDrop T p t (call c)
       go c (Err n) a h = no_set (has_tag (at T t (caller_of c)).sec p) (and_right (eqb (kind_of c) 6) _ (rw a at h))
       go (put i bs) (Ok _) a h = absurd (false≢true h)
       go (show i buf) (Ok _) a h = absurd (false≢true h)

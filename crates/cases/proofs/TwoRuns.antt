@@ -2,20 +2,20 @@
 -- Assumes nothing.
 use mathlib.Core.Path.{◌≡◌, refl, ap, sym, ◌∙◌}
 use mathlib.Core.Bool.{Bool, true, false, cond, false≢true}
-use mathlib.Core.List.{[], ◌∷◌, map}
+use mathlib.Core.List.{List, [], ◌∷◌, map}
 use Prim.Native.Nat.{ℕ}
 use native.Mathlib.Omega.{arith}
 use lib.Dec.{ltb, eqb}
 use Rattle.rules.specs.Table.{Slot, plain, free, at, accepted, Rights, no_rights}
-use Rattle.rules.specs.Calls.{fetch, add_tag, drop_tag}
-use Rattle.rules.specs.Refusals.{step}
-use Rattle.rules.specs.Runs.{Hidden, bears, hidden_at, kept, struck, struck_of_programs, SlotsAgree}
+use Rattle.rules.specs.Calls.{put, fetch, add_tag, drop_tag}
+use Rattle.rules.specs.Runs.{kept, Event, preview, calls_alone, next, Hidden, bears, hidden_at, struck, struck_of_programs, SlotsAgree}
 use Rattle.rules.specs.Claims.{SecretRuns}
 use Rattle.rules.proofs.Facts.{either}
 use Rattle.rules.proofs.Plain.{plain_laws}
 use Rattle.label.specs.Tags.{tag_of, empty, has_tag}
 use Rattle.label.specs.Words.{words}
-use Rattle.cases.specs.Rounds.{calls_made, round_table, round, probe_table, probe, other_table, longer, TwoRunsHold, without_probe}
+use Rattle.cases.specs.Hex.{hex}
+use Rattle.cases.specs.Rounds.{events, round_table, round, probe_table, probe, other_table, longer, without_probe, asking, asking_otherwise, TwoRunsHold}
 use Rattle.cases.proofs.Sure.{kept_sure}
 use Rattle.cases.proofs.Cases.{computed, probe_holds}
 use Rattle.cases.proofs.Claims.{words-secrecy}
@@ -45,11 +45,11 @@ agree i = either (ltb i 32) (λ e. rw e (go (eqb i 0))) (λ e. rw e (agree_same 
     go true = record { kind = refl; sec = refl; int = refl; rights = refl; content = λ h. absurd (false≢true (sym h)) }
     go false = agree_same i rest
 
-round-kept : kept (step (plain words)) (struck (plain words) (bears words 0)) round_table (calls_made round) ≡ fetch 1 0 ∷ add_tag 1 0 0 ∷ drop_tag 1 0 0 ∷ []
+round-kept : kept (next (plain words)) (struck (plain words) (bears words 0)) round_table (events round) ≡ calls_alone (fetch 1 0 ∷ add_tag 1 0 0 ∷ drop_tag 1 0 0 ∷ [])
 unfolding computed
-round-kept = kept_sure (plain words) (plain_laws words) (struck (plain words) (bears words 0)) round_table (calls_made round) refl
+round-kept = kept_sure (plain words) (plain_laws words) (struck (plain words) (bears words 0)) round_table (events round) refl
 
-other-kept : kept (step (plain words)) (struck (plain words) (bears words 0)) other_table longer ≡ fetch 1 0 ∷ add_tag 1 0 0 ∷ drop_tag 1 0 0 ∷ []
+other-kept : kept (next (plain words)) (struck (plain words) (bears words 0)) other_table longer ≡ calls_alone (fetch 1 0 ∷ add_tag 1 0 0 ∷ drop_tag 1 0 0 ∷ [])
 unfolding computed
 other-kept = kept_sure (plain words) (plain_laws words) (struck (plain words) (bears words 0)) other_table longer refl
 
@@ -78,34 +78,52 @@ no_right_at i = either (ltb i 32) (λ e. rw e (go (eqb i 0) (eqb i 1) (eqb i 2) 
     go false false false false true = refl
     go false false false false false = refl
 
-items-kept : kept (step (plain words)) (struck (plain words) (bears words 9)) probe_table (calls_made probe) ≡ without_probe
+items-kept : kept (next (plain words)) (struck (plain words) (bears words 9)) probe_table (events probe) ≡ without_probe
 unfolding computed
-items-kept = kept_sure (plain words) (plain_laws words) (struck (plain words) (bears words 9)) probe_table (calls_made probe) refl
+items-kept = kept_sure (plain words) (plain_laws words) (struck (plain words) (bears words 9)) probe_table (events probe) refl
 
-without-kept : kept (step (plain words)) (struck (plain words) (bears words 9)) probe_table without_probe ≡ without_probe
+without-kept : kept (next (plain words)) (struck (plain words) (bears words 9)) probe_table without_probe ≡ without_probe
 unfolding computed
 without-kept = kept_sure (plain words) (plain_laws words) (struck (plain words) (bears words 9)) probe_table without_probe refl
 
-probe-premise : SecretRuns (plain words) (struck (plain words) (bears words 9)) 9 probe_table probe_table (calls_made probe) without_probe
+probe-premise : SecretRuns (plain words) (struck (plain words) (bears words 9)) 9 probe_table probe_table (events probe) without_probe
 unfolding tag_of empty has_tag
 probe-premise = record {
   left = probe_holds.accepted;
   right = probe_holds.accepted;
   undroppable = λ i p. ap (λ (r : Rights words). has_tag r.sd 9) (no_right_at i);
   tables = record { slots = λ i. agree_same i (at (plain words) probe_table i); groups = refl };
-  calls = items-kept ∙ sym without-kept;
+  events = items-kept ∙ sym without-kept;
 }
+
+asking-kept : kept (next (plain words)) (struck (plain words) (bears words 0)) round_table asking
+    ≡ preview (fetch 1 0) ∷ preview (put 2 (hex "44")) ∷ calls_alone (fetch 1 0 ∷ add_tag 1 0 0 ∷ drop_tag 1 0 0 ∷ [])
+unfolding computed
+asking-kept = kept_sure (plain words) (plain_laws words) (struck (plain words) (bears words 0)) round_table asking refl
+
+otherwise-kept : kept (next (plain words)) (struck (plain words) (bears words 0)) other_table asking_otherwise
+    ≡ preview (fetch 1 0) ∷ preview (put 2 (hex "44")) ∷ calls_alone (fetch 1 0 ∷ add_tag 1 0 0 ∷ drop_tag 1 0 0 ∷ [])
+unfolding computed
+otherwise-kept = kept_sure (plain words) (plain_laws words) (struck (plain words) (bears words 0)) other_table asking_otherwise refl
+
+-- the premise on the watering round's table and the other one
+starts_differ : (es fs : List (Event words))
+    → kept (next (plain words)) (struck (plain words) (bears words 0)) round_table es ≡ kept (next (plain words)) (struck (plain words) (bears words 0)) other_table fs
+    → SecretRuns (plain words) (struck (plain words) (bears words 0)) 0 round_table other_table es fs
+starts_differ es fs k = record { left = round-accepted; right = other-accepted; undroppable = λ i p. undroppable i; tables = record { slots = agree; groups = refl }; events = k }
 
 pub two_runs_hold : TwoRunsHold
 unfolding computed
 two_runs_hold = record {
   of_programs = round-kept;
   of_items = items-kept;
-  programs_alone = kept_sure (plain words) (plain_laws words) (struck_of_programs (plain words) (bears words 0)) round_table (calls_made round) refl;
-  programs_alone_at_the_probe = kept_sure (plain words) (plain_laws words) (struck_of_programs (plain words) (bears words 9)) probe_table (calls_made probe) refl;
+  of_previews = asking-kept;
+  programs_alone = kept_sure (plain words) (plain_laws words) (struck_of_programs (plain words) (bears words 0)) round_table (events round) refl;
+  programs_alone_at_the_probe = kept_sure (plain words) (plain_laws words) (struck_of_programs (plain words) (bears words 9)) probe_table (events probe) refl;
   hidden = hidden_are;
   answered = λ c h. rw h;
-  premise = record { left = round-accepted; right = other-accepted; undroppable = λ i p. undroppable i; tables = record { slots = agree; groups = refl }; calls = round-kept ∙ sym other-kept };
+  premise = starts_differ (events round) longer (round-kept ∙ sym other-kept);
+  premise_of_previews = starts_differ asking asking_otherwise (asking-kept ∙ sym otherwise-kept);
   premise_of_items = probe-premise;
-  undisclosed = words-secrecy 9 (omega arith) probe_table probe_table (calls_made probe) without_probe probe-premise;
+  undisclosed = words-secrecy 9 (omega arith) probe_table probe_table (events probe) without_probe probe-premise;
 }

@@ -1,6 +1,6 @@
 -- Rounds worked by hand: document 01's watering round, a second one with calls and refusals that it lacks, put, an allowed drop,
--- create, release, hand, 1, 3, 4, 8 and 9, and one in which items are named as callers. Each call with its whole record and the slot
--- that it leaves; and audits at the end.
+-- create, release, hand, 1, 3, 4, 8 and 9, one in which items are named as callers, and one with previews. Each call and preview with
+-- its whole record and the slot that it leaves; and audits at the end.
 -- Assumes nothing.
 use Rattle.std.specs.Prelude.{◌≡◌, true, false, cond, List, [], ◌∷◌, ◌++◌, map, ℕ, eqb, replicate, take, Ok, Err}
 use Rattle.rules.specs.declared.Kind.{Kind}
@@ -9,9 +9,8 @@ use Rattle.rules.specs.declared.Refusal.{Refusal}
 use Rattle.rules.specs.declared.Refusal.TheVariants.{NoProgram, NoRoomForRecords}
 use Rattle.rules.specs.Table.{Slot, Tables, Plain, plain, free, accepted}
 use Rattle.rules.specs.Calls.{Call, put, show, send, fetch, add_tag, drop_tag, create, release, hand, caller_of}
-use Rattle.rules.specs.Refusals.{step}
 use Rattle.rules.specs.Record.{answer, Audit, audit}
-use Rattle.rules.specs.Runs.{bears, final, trace, kept, hidden_at, struck, struck_of_programs, heard, records}
+use Rattle.rules.specs.Runs.{final, trace, kept, Event, call, preview, call_of, calls_alone, next, records, bears, hidden_at, struck, struck_of_programs, heard}
 use Rattle.rules.specs.Claims.{SecretRuns, Undisclosed}
 use Rattle.label.specs.Tags.{label_of}
 use Rattle.label.specs.Words.{words}
@@ -19,37 +18,46 @@ use Rattle.cases.specs.Hex.{hex}
 
 -- ---- rounds
 
--- a call, its record, what it shows, and the table that it hands back, by the one that it gets
+-- a call or a preview, its record, what it shows, and the table that it leaves, by the one that it gets
 pub record Line (X : Type 0) : Type 0 where
-  pub call : Call words
+  pub event : Event words
   pub entry : List ℕ
   pub part : List ℕ
   pub after : X → X
 
 abbrev line : {X : Type 0} → Call words → List ℕ → (X → X) → Line X
-line c e f = record { call = c; entry = e; part = []; after = f }
+line c e f = record { event = call c; entry = e; part = []; after = f }
 
 abbrev shows : {X : Type 0} → Call words → List ℕ → List ℕ → (X → X) → Line X
-shows c e bs f = record { call = c; entry = e; part = bs; after = f }
+shows c e bs f = record { event = call c; entry = e; part = bs; after = f }
 
-abbrev pub calls_made : {X : Type 0} → List (Line X) → List (Call words)
-calls_made = map (λ l. l.call)
+-- a preview: whatever is answered, nothing changes
+abbrev asks : {X : Type 0} → Call words → List ℕ → List ℕ → Line X
+asks c e bs = record { event = preview c; entry = e; part = bs; after = λ t. t }
+
+abbrev pub events : {X : Type 0} → List (Line X) → List (Event words)
+events = map (λ l. l.event)
 
 -- what f takes of each line, joined
 abbrev pub told : {X Y : Type 0} → (Line X → List Y) → List (Line X) → List Y
 told f [] = []
 told f (l ∷ ls) = f l ++ told f ls
 
--- what a call gives: its record, its part and the table
+-- the record of a line that the list of records gains
+abbrev pub gained : Event words → List ℕ → List ℕ
+gained (call c) e = e
+gained (preview c) e = []
+
+-- what a call or a preview gives: its record, its part and the table
 pub record Turn (X : Type 0) : Type 0 where
   pub entry : List ℕ
   pub part : List ℕ
   pub table : X
 
--- by the rules, each call on the table that the one before it left, and by the lines
+-- by the rules, each on the table that the one before it left, and by the lines
 abbrev pub turns : (T : Tables words) → T.Table → List (Line T.Table) → List (Turn T.Table)
 turns T t [] = []
-turns T t (l ∷ ls) = record { entry = (answer T t l.call).entry; part = (answer T t l.call).part; table = step T t l.call } ∷ turns T (l.after t) ls
+turns T t (l ∷ ls) = record { entry = (answer T t (call_of l.event)).entry; part = (answer T t (call_of l.event)).part; table = next T t l.event } ∷ turns T (l.after t) ls
 
 abbrev pub expected : {X : Type 0} → X → List (Line X) → List (Turn X)
 expected t [] = []
@@ -176,14 +184,45 @@ probe =
     ∷ line (create 4 2 1) (hex "0704020400ff01000012000000000000") unchanged
     ∷ []
 
--- ---- what is claimed of a round: its table is accepted, each call gives what its line says, and so do the records and the bytes
--- shown of the run
+-- ---- previews (document 02, change 3): the watering round, each step asked about before it is made
+
+abbrev pub asked : List (Line (Plain words))
+asked =
+    asks (fetch 1 0) (hex "0401000700ffff000100000000000000") []
+    -- the add would be allowed; it is not made, so the fetch would be refused as before
+    ∷ asks (add_tag 1 0 0) (hex "0501ff00000000000100000000000000") []
+    ∷ asks (fetch 1 0) (hex "0401000700ffff000100000000000000") []
+    ∷ line (add_tag 1 0 0) (hex "0501ff00000000000100000000000000") (now 1 (entity Program 1 0 1 0 0 0 []))
+    -- the fetch would move two bytes; slot 1 still has none to show
+    ∷ asks (fetch 1 0) (hex "0401000002ffff000100000000000000") []
+    ∷ asks (show 1 (replicate 64 0)) (hex "0201ff0000ffff000100000000000000") []
+    ∷ line (fetch 1 0) (hex "0401000002ffff000100000000000000") (now 1 (entity Program 1 0 1 0 0 0 (hex "a1b2")))
+    -- a show into four bytes, and into one: 6
+    ∷ asks (show 1 (replicate 4 0xee)) (hex "0201ff0002ffff000100000000000000") (hex "a1b2")
+    ∷ asks (show 1 (replicate 1 0xee)) (hex "0201ff0600ffff000100000000000000") []
+    ∷ asks (put 1 (hex "ff")) (hex "0101ff0001ffff000100000000000000") []
+    ∷ asks (send 1 2) (hex "0301020700ffff000100000000000000") []
+    ∷ asks (drop_tag 1 0 0) (hex "0601ff0a000000000100000000000000") []
+    -- slot 3 stays free
+    ∷ asks (create 0 3 2) (hex "0700030000ff02000100000000000000") []
+    ∷ asks (create 0 3 1) (hex "0700030000ff01000100000000000000") []
+    ∷ asks (hand 1 0 0 0) (hex "09010000000000000100000000000000") []
+    -- slot 0 would be free
+    ∷ asks (release 0 0) (hex "0800000000ffff000100000000000000") []
+    -- by an item, and by a slot that is none: 1
+    ∷ asks (put 2 (hex "44")) (hex "0102ff0100ffff000000000000000000") []
+    ∷ asks (fetch 40 0) (hex "0428000100ffff000000000000000000") []
+    ∷ shows (show 1 (replicate 64 0)) (hex "0201ff0002ffff000100000000000000") (hex "a1b2") (now 1 (entity Program 1 0 1 0 0 0 (hex "a1b2")))
+    ∷ []
+
+-- ---- what is claimed of a round: its table is accepted, each call and preview gives what its line says, and so do the answers'
+-- records and the bytes shown of the run
 
 pub record Holds (t : Plain words) (ls : List (Line (Plain words))) : Type 0 where
   pub accepted : accepted P t ≡ true
   pub plays : turns P t ls ≡ expected t ls
-  pub records : trace (step P) (λ u c. (answer P u c).entry ∷ []) t (calls_made ls) ≡ told (λ l. l.entry ∷ []) ls
-  pub parts : trace (step P) (λ u c. (answer P u c).part) t (calls_made ls) ≡ told (λ l. l.part) ls
+  pub entries : trace (next P) (λ u e. (answer P u (call_of e)).entry ∷ []) t (events ls) ≡ told (λ l. l.entry ∷ []) ls
+  pub parts : trace (next P) (λ u e. (answer P u (call_of e)).part) t (events ls) ≡ told (λ l. l.part) ls
 
 abbrev pub RoundHolds : Type 0
 RoundHolds = Holds round_table round
@@ -194,10 +233,13 @@ SecondHolds = Holds second_table second
 abbrev pub ProbeHolds : Type 0
 ProbeHolds = Holds probe_table probe
 
+abbrev pub AskedHolds : Type 0
+AskedHolds = Holds round_table asked
+
 -- ---- audits of all records of a round with its end table, by caller i
 
 abbrev audited : Plain words → List (Line (Plain words)) → ℕ → List ℕ → Audit
-audited t ls i buf = audit P (final (step P) t (calls_made ls)) i (records P t (calls_made ls)) buf
+audited t ls i buf = audit P (final (next P) t (events ls)) i (records P t (events ls)) buf
 
 abbrev refused : Refusal → List ℕ → Audit
 refused r buf = record { outcome = Err r; part = []; buffer = buf }
@@ -235,33 +277,50 @@ pub record AuditsHold : Type 0 where
   -- by its grower: all but the last, 13 records, where there is room for 12 and 15 bytes
   pub probe_short : audited probe_table probe 0 (replicate 207 0xee) ≡ refused NoRoomForRecords (replicate 207 0xee)
   pub probe_all : (audited probe_table probe 0 (replicate 208 0xee)).part ≡ told (λ l. l.entry) (take 13 probe)
+  -- of the round with previews by slot 1: the three calls
+  pub asked_all : audited round_table asked 1 (replicate 48 0xee) ≡ record {
+    outcome = Ok tt;
+    part = hex "0501ff000000000001000000000000000401000002ffff0001000000000000000201ff0002ffff000100000000000000";
+    buffer = hex "0501ff000000000001000000000000000401000002ffff0001000000000000000201ff0002ffff000100000000000000";
+  }
 
 -- ---- 'Two runs', at the watering round and tag 0, and at the probe's round and tag 9
 
--- the round's table with another content in slot 0, which bears the tag; and a list of calls with two more by that slot
+-- the round's table with another content in slot 0, which bears the tag; and a run with two more calls by that slot
 abbrev pub other_table : Plain words
 other_table = now 0 (entity Program 1 0 0 0 0 0 (hex "ff")) round_table
 
-abbrev pub longer : List (Call words)
-longer = put 0 (hex "11") ∷ send 0 2 ∷ calls_made round
+abbrev pub longer : List (Event words)
+longer = call (put 0 (hex "11")) ∷ call (send 0 2) ∷ events round
 
 -- the probe's round without the calls by the item that bears the tag
-abbrev pub without_probe : List (Call words)
-without_probe = send 3 4 ∷ fetch 7 2 ∷ send 40 2 ∷ fetch 1 2 ∷ create 4 2 1 ∷ []
+abbrev pub without_probe : List (Event words)
+without_probe = calls_alone (send 3 4 ∷ fetch 7 2 ∷ send 40 2 ∷ fetch 1 2 ∷ create 4 2 1 ∷ [])
+
+-- the watering round after previews, of which those by slot 0, that bears the tag, differ: in number, kind and place
+abbrev pub asking : List (Event words)
+asking = preview (show 0 (replicate 64 0)) ∷ preview (fetch 1 0) ∷ preview (put 2 (hex "44")) ∷ preview (release 0 0) ∷ events round
+
+abbrev pub asking_otherwise : List (Event words)
+asking_otherwise = preview (fetch 1 0) ∷ call (put 0 (hex "11")) ∷ preview (create 0 3 2) ∷ preview (put 2 (hex "44")) ∷ events round
 
 pub record TwoRunsHold : Type 0 where
   -- a put, show, send or fetch by a program bearing the tag is struck out, also a refused one
-  pub of_programs : kept (step P) (struck P (bears words 0)) round_table (calls_made round) ≡ fetch 1 0 ∷ add_tag 1 0 0 ∷ drop_tag 1 0 0 ∷ []
+  pub of_programs : kept (next P) (struck P (bears words 0)) round_table (events round) ≡ calls_alone (fetch 1 0 ∷ add_tag 1 0 0 ∷ drop_tag 1 0 0 ∷ [])
   -- of the probe's round, every call by the item that bears the tag, and none by another
-  pub of_items : kept (step P) (struck P (bears words 9)) probe_table (calls_made probe) ≡ without_probe
+  pub of_items : kept (next P) (struck P (bears words 9)) probe_table (events probe) ≡ without_probe
+  -- every preview by slot 0, of whichever call, and none by slot 1 or the item without the tag
+  pub of_previews : kept (next P) (struck P (bears words 0)) round_table asking
+      ≡ preview (fetch 1 0) ∷ preview (put 2 (hex "44")) ∷ calls_alone (fetch 1 0 ∷ add_tag 1 0 0 ∷ drop_tag 1 0 0 ∷ [])
   -- to the letter of demand 3 the same of programs, and none of items
-  pub programs_alone : kept (step P) (struck_of_programs P (bears words 0)) round_table (calls_made round) ≡ fetch 1 0 ∷ add_tag 1 0 0 ∷ drop_tag 1 0 0 ∷ []
-  pub programs_alone_at_the_probe : kept (step P) (struck_of_programs P (bears words 9)) probe_table (calls_made probe) ≡ calls_made probe
+  pub programs_alone : kept (next P) (struck_of_programs P (bears words 0)) round_table (events round) ≡ calls_alone (fetch 1 0 ∷ add_tag 1 0 0 ∷ drop_tag 1 0 0 ∷ [])
+  pub programs_alone_at_the_probe : kept (next P) (struck_of_programs P (bears words 9)) probe_table (events probe) ≡ events probe
   -- slot 0 bears tag 0; slot 1, the item in 2, the free slot 7 and the number 40 do not, and their calls are answered
   pub hidden : map (hidden_at P (bears words 0) round_table) (0 ∷ 1 ∷ 2 ∷ 7 ∷ 40 ∷ []) ≡ true ∷ false ∷ false ∷ false ∷ false ∷ []
-  pub answered : (c : Call words) → hidden_at P (bears words 0) round_table (caller_of c) ≡ false → heard P (bears words 0) round_table c ≡ answer P round_table c ∷ []
-  -- the premise of demand 3 is met by two tables and two lists that differ
-  pub premise : SecretRuns P (struck P (bears words 0)) 0 round_table other_table (calls_made round) longer
+  pub answered : (c : Call words) → hidden_at P (bears words 0) round_table (caller_of c) ≡ false → heard P (bears words 0) round_table (call c) ≡ answer P round_table c ∷ []
+  -- the premise of demand 3 is met by two tables and two runs that differ
+  pub premise : SecretRuns P (struck P (bears words 0)) 0 round_table other_table (events round) longer
+  pub premise_of_previews : SecretRuns P (struck P (bears words 0)) 0 round_table other_table asking asking_otherwise
   -- and by the probe's round and the round without the probe's calls: who lacks its tag is told the same by both
-  pub premise_of_items : SecretRuns P (struck P (bears words 9)) 9 probe_table probe_table (calls_made probe) without_probe
-  pub undisclosed : Undisclosed P 9 probe_table probe_table (calls_made probe) without_probe
+  pub premise_of_items : SecretRuns P (struck P (bears words 9)) 9 probe_table probe_table (events probe) without_probe
+  pub undisclosed : Undisclosed P 9 probe_table probe_table (events probe) without_probe

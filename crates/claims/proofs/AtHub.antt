@@ -11,6 +11,7 @@ use Rattle.rules.specs.Record.{audit}
 use Rattle.rules.proofs.Refused.{refusals_move_nothing, refused_audits_move_nothing, parts_fit}
 use Rattle.rules.proofs.Groups.{stays_accepted}
 use Rattle.rules.proofs.Shows.{records_show}
+use Rattle.rules.proofs.Previews.{previews_leave_nothing}
 use Rattle.rules.proofs.Secrecy.{secrecy, secrecy_of_programs, others_are_heard, secrecy_undropped}
 use Rattle.rules.proofs.ByNumber.{list_by_number, struck_by_number, need_by_number, items_refused, record-bytes}
 use Rattle.rules.proofs.Effects.{calls_leave, rights_needed}
@@ -18,7 +19,7 @@ use Rattle.rules.proofs.Audits.{audit-by-number, runs_audited}
 use Rattle.label.proofs.Words.{words_order, words_tag}
 use Rattle.monitor.specs.declared.Table.{Table}
 use Rattle.monitor.specs.Table.{hub}
-use Rattle.monitor.specs.Calls.{reply, shown_part, shown_buffer, buffer_after, audited, audit_done}
+use Rattle.monitor.specs.Calls.{reply, shown_part, shown_buffer, part_after, buffer_after, audited, audit_done}
 use Rattle.claims.specs.AtHub.{RunsAsRules, PerformsNamed, AtHub}
 use Rattle.monitor.proofs.Form.{hub_laws}
 use Rattle.monitor.proofs.AuditLaws.{len_room, done_allowed}
@@ -32,13 +33,14 @@ outcome_done t i list buf = go (audit hub t i list buf).outcome
     go (Err r) = refl
 
 pub runs_as_rules : RunsAsRules
-unfolding reply shown_part shown_buffer buffer_after audited
+unfolding reply shown_part shown_buffer part_after buffer_after audited
 runs_as_rules = record {
   table = λ t c. refl;
   outcome = λ t c. refl;
   entry = λ t c. refl;
   part = λ t i buf. refl;
   buffer = λ t i buf. refl;
+  filled = λ t c bytes buf. refl;
   shown = λ t i bytes buf. refl;
   unused = λ t c bytes buf e. rw e;
   audits = λ t i list buf. refl;
@@ -54,6 +56,7 @@ at_hub = record {
   parts = parts_fit hub;
   accepted = stays_accepted words_order hub hub_laws;
   records = records_show words_order hub;
+  previews = previews_leave_nothing hub;
   secrecy = λ p l. secrecy p (words_tag p l) words_order hub hub_laws;
   items_refused = items_refused hub;
   secrecy_of_programs = λ p l. secrecy_of_programs p (words_tag p l) words_order hub hub_laws;

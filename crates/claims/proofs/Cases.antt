@@ -23,8 +23,8 @@ use Rattle.entity.specs.declared.Entity.{Entity}
 use Rattle.entity.specs.Entity.{slot_of}
 use Rattle.block.specs.Block.{block_at}
 use Rattle.cases.specs.Cases.{table_of, Case, cases, Result, given, stated}
-use Rattle.cases.specs.Rounds.{Line, calls_made, Holds}
-use Rattle.cases.proofs.Cases.{cases_hold, round_holds, second_holds, probe_holds}
+use Rattle.cases.specs.Rounds.{Line, events, Holds}
+use Rattle.cases.proofs.Cases.{cases_hold, round_holds, second_holds, probe_holds, asked_holds}
 use Rattle.monitor.specs.Table.{formed, groups_of, hub, empty_table}
 use Rattle.monitor.proofs.Form.{hub_laws}
 use Rattle.monitor.proofs.Empty.{empty-entity, empty_form}
@@ -114,11 +114,11 @@ cases_hold_at_hub = all_too cases cases_hold
 round_too : {t : Plain words} {ls : List (Line (Plain words))} → Holds t ls → PlaysAtHub t ls
 round_too {t} {ls} h =
     let f = and_left ((plain words).formed t) _ h.accepted in
-    let r = answers_by_slots words_order hub (plain words) hub_laws (plain_laws words) (table_holding t) t (calls_made ls) (held t f) in record {
+    let r = answers_by_slots words_order hub (plain words) hub_laws (plain_laws words) (table_holding t) t (events ls) (held t f) in record {
       accepted = accepted_too t f h.accepted;
-      records = r.answers (List ℕ) (λ a. a.entry ∷ []) ∙ h.records;
+      entries = r.answers (List ℕ) (λ a. a.entry ∷ []) ∙ h.entries;
       parts = r.answers ℕ (λ a. a.part) ∙ h.parts;
     }
 
 pub rounds_hold_at_hub : RoundsHoldAtHub
-rounds_hold_at_hub = record { watering = round_too round_holds; second = round_too second_holds; probe = round_too probe_holds }
+rounds_hold_at_hub = record { watering = round_too round_holds; second = round_too second_holds; probe = round_too probe_holds; asked = round_too asked_holds }

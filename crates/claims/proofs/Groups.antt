@@ -14,7 +14,7 @@ use Rattle.std.specs.Prelude.{Ok, Err}
 use Rattle.rules.specs.Table.{is_free, held, keeps_each, slot_keeps, accepted}
 use Rattle.rules.specs.Calls.{Call, target}
 use Rattle.rules.specs.Refusals.{on_allowed, verdict, step}
-use Rattle.rules.specs.Runs.{final}
+use Rattle.rules.specs.Runs.{final, call, preview, next}
 use Rattle.rules.proofs.Facts.{and_left, and_right, both, or_right, or-rest, either}
 use Rattle.rules.proofs.Bounded.{all-at, all_of}
 use Rattle.rules.proofs.Held.{kept_by_place}
@@ -117,9 +117,9 @@ accepted_spelt = record {
 }
 
 pub no_group_broken : NoGroupBroken
-no_group_broken t cs f h =
-    let k = (stays_accepted words_order hub hub_laws t cs (accepted_spelt.enough t f h)).accepted in
-    let u = final (step hub) t cs in
+no_group_broken t es f h =
+    let k = (stays_accepted words_order hub hub_laws t es (accepted_spelt.enough t f h)).accepted in
+    let u = final (next hub) t es in
     record { form = accepted_spelt.form u k; kept = accepted_spelt.kept u k }
 
 -- ---- the arrays
@@ -137,7 +137,8 @@ step_fixed t c = go (verdict hub t c)
 
 pub no_group_moved : NoGroupMoved
 no_group_moved t [] = record { groups = refl; count = refl }
-no_group_moved t (c ∷ cs) =
+no_group_moved t (preview c ∷ es) = no_group_moved t es
+no_group_moved t (call c ∷ es) =
     let a = step_fixed t c in
-    let b = no_group_moved (step hub t c) cs in
+    let b = no_group_moved (step hub t c) es in
     record { groups = b.groups ∙ a.groups; count = b.count ∙ a.count }

@@ -9,7 +9,7 @@ use Rattle.rules.specs.Table.{Slot}
 use Rattle.rules.specs.Calls.{Call, show, moved, is_show, lent}
 use Rattle.rules.specs.Refusals.{step}
 use Rattle.rules.specs.Record.{answer, audit}
-use Rattle.rules.specs.Claims.{RefusalsMoveNothing, RefusedAuditsMoveNothing, PartsFit, StaysAccepted, RecordsShow, Secrecy, ItemsRefused, SecrecyOfPrograms, OthersAreHeard, SecrecyUndropped}
+use Rattle.rules.specs.Claims.{RefusalsMoveNothing, RefusedAuditsMoveNothing, PartsFit, StaysAccepted, RecordsShow, PreviewsLeaveNothing, Secrecy, ItemsRefused, SecrecyOfPrograms, OthersAreHeard, SecrecyUndropped}
 use Rattle.rules.specs.ByNumber.{ListByNumber, StruckByNumber, NeedByNumber, RecordBytes}
 use Rattle.rules.specs.Effects.{CallsLeave, RightsNeeded}
 use Rattle.rules.specs.Audits.{AuditByNumber, RunsAudited}
@@ -18,17 +18,18 @@ use Rattle.label.specs.Words.{words}
 use Rattle.records.specs.Record.{fields_as, fields_given}
 use Rattle.monitor.specs.declared.Table.{Table}
 use Rattle.monitor.specs.Table.{hub}
-use Rattle.monitor.specs.Calls.{reply, shown_part, shown_buffer, buffer_after, audited, audit_done}
+use Rattle.monitor.specs.Calls.{reply, shown_part, shown_buffer, part_after, buffer_after, audited, audit_done}
 use Rattle.monitor.specs.Finish.{audit_len}
 
--- What the contracts of the calls and of the audit speak of, by the rules. A call that is performed into a lent buffer leaves it as
--- the rules say of show, and as it was otherwise
+-- What the contracts of the calls, of previews and of the audit speak of, by the rules. A call that is performed into a lent buffer,
+-- or previewed, leaves it as the rules say of show, and as it was otherwise
 pub record RunsAsRules : Type 0 where
   pub table : (t : Table) (c : Call words) → (reply t c).table ≡ step hub t c
   pub outcome : (t : Table) (c : Call words) → (reply t c).answer.outcome ≡ (answer hub t c).outcome
   pub entry : (t : Table) (c : Call words) → (reply t c).answer.entry ≡ (answer hub t c).entry
   pub part : (t : Table) (i : ℕ) (buf : List ℕ) → shown_part t i buf ≡ (answer hub t (show i buf)).part
   pub buffer : (t : Table) (i : ℕ) (buf : List ℕ) → shown_buffer t i buf ≡ (answer hub t (show i buf)).buffer
+  pub filled : (t : Table) (c : Named) (bytes buf : List ℕ) → part_after t c bytes buf ≡ (answer hub t (call_with c bytes buf)).part
   pub shown : (t : Table) (i : ℕ) (bytes buf : List ℕ) → buffer_after t (Show i) bytes buf ≡ (answer hub t (show i buf)).buffer
   pub unused : (t : Table) (c : Named) (bytes buf : List ℕ) → is_show (call_with c bytes buf) ≡ false → buffer_after t c bytes buf ≡ buf
   pub audits : (t : Table) (i : ℕ) (list buf : List ℕ) → audited t i list buf ≡ audit hub t i list buf
@@ -60,6 +61,7 @@ pub record AtHub : Type 0 where
   pub parts : PartsFit hub
   pub accepted : StaysAccepted hub
   pub records : RecordsShow hub
+  pub previews : PreviewsLeaveNothing hub
   pub secrecy : (p : ℕ) → p < 64 → Secrecy hub p
   pub items_refused : ItemsRefused hub
   pub secrecy_of_programs : (p : ℕ) → p < 64 → SecrecyOfPrograms hub p

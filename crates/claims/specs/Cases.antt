@@ -2,13 +2,12 @@
 -- Assumes nothing.
 use Rattle.std.specs.Prelude.{◌≡◌, true, List, [], ◌∷◌, ◌++◌, map, ℕ, zero, suc, ◌-◌, length, get_or, replicate}
 use Rattle.rules.specs.Table.{Plain, accepted}
-use Rattle.rules.specs.Refusals.{step}
 use Rattle.rules.specs.Record.{answer}
-use Rattle.rules.specs.Runs.{trace}
+use Rattle.rules.specs.Runs.{trace, call_of, next}
 use Rattle.label.specs.Tags.{empty}
 use Rattle.label.specs.Words.{words}
 use Rattle.cases.specs.Cases.{table_of, Case, cases, Result, stated}
-use Rattle.cases.specs.Rounds.{Line, calls_made, told, round_table, round, second_table, second, probe_table, probe}
+use Rattle.cases.specs.Rounds.{Line, events, told, round_table, round, second_table, second, probe_table, probe, asked}
 use Rattle.monitor.specs.declared.Table.{Table}
 use Rattle.monitor.specs.Table.{hub, empty_table}
 
@@ -36,14 +35,15 @@ given_at_hub k = record {
 abbrev pub CasesHoldAtHub : Type 0
 CasesHoldAtHub = map given_at_hub cases ≡ map stated cases
 
--- A round's calls on the struct give the whole records and the bytes shown that its lines say
+-- A round's calls and previews on the struct give the whole records and the bytes shown that its lines say
 pub record PlaysAtHub (t : Plain words) (ls : List (Line (Plain words))) : Type 0 where
   pub accepted : accepted hub (table_holding t) ≡ true
-  pub records : trace (step hub) (λ u c. (answer hub u c).entry ∷ []) (table_holding t) (calls_made ls) ≡ told (λ l. l.entry ∷ []) ls
-  pub parts : trace (step hub) (λ u c. (answer hub u c).part) (table_holding t) (calls_made ls) ≡ told (λ l. l.part) ls
+  pub entries : trace (next hub) (λ u e. (answer hub u (call_of e)).entry ∷ []) (table_holding t) (events ls) ≡ told (λ l. l.entry ∷ []) ls
+  pub parts : trace (next hub) (λ u e. (answer hub u (call_of e)).part) (table_holding t) (events ls) ≡ told (λ l. l.part) ls
 
--- Document 01's watering round, the second one, and the one in which items are named as callers
+-- Document 01's watering round, the second one, the one in which items are named as callers, and the one with previews
 pub record RoundsHoldAtHub : Type 0 where
   pub watering : PlaysAtHub round_table round
   pub second : PlaysAtHub second_table second
   pub probe : PlaysAtHub probe_table probe
+  pub asked : PlaysAtHub round_table asked

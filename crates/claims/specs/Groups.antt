@@ -1,11 +1,9 @@
--- Document 01, 'The table': no sequence of calls breaks a conflict group, counted tag by tag over the fields of the struct
+-- Document 01, 'The table': no sequence of calls and previews breaks a conflict group, counted tag by tag over the fields of the struct
 -- that runs.
 -- Assumes nothing.
 use Rattle.std.specs.Prelude.{◌≡◌, true, false, List, ℕ, ◌≤◌, ◌<◌, min, max, get_or}
 use Rattle.rules.specs.Table.{is_free, accepted}
-use Rattle.rules.specs.Calls.{Call}
-use Rattle.rules.specs.Refusals.{step}
-use Rattle.rules.specs.Runs.{final}
+use Rattle.rules.specs.Runs.{final, Event, next}
 use Rattle.label.specs.declared.Label.{Label}
 use Rattle.label.specs.Tags.{tag_of, sum_of, empty}
 use Rattle.label.specs.Words.{words}
@@ -38,9 +36,9 @@ pub record StillKept (u : Table) : Type 0 where
   pub form : InForm u
   pub kept : GroupsKept u
 
--- No list of calls leads from a table in form that keeps to its groups to one that does not
+-- No list of calls and previews leads from a table in form that keeps to its groups to one that does not
 abbrev pub NoGroupBroken : Type 0
-NoGroupBroken = (t : Table) (cs : List (Call words)) → InForm t → GroupsKept t → StillKept (final (step hub) t cs)
+NoGroupBroken = (t : Table) (es : List (Event words)) → InForm t → GroupsKept t → StillKept (final (next hub) t es)
 
 -- The array of groups and their count are the very same after any calls, from any table
 pub record GroupsFixed (t u : Table) : Type 0 where
@@ -48,4 +46,4 @@ pub record GroupsFixed (t u : Table) : Type 0 where
   pub count : u.count ≡ t.count
 
 abbrev pub NoGroupMoved : Type 0
-NoGroupMoved = (t : Table) (cs : List (Call words)) → GroupsFixed t (final (step hub) t cs)
+NoGroupMoved = (t : Table) (es : List (Event words)) → GroupsFixed t (final (next hub) t es)

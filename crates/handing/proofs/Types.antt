@@ -1,5 +1,5 @@
 -- What the walks of `HandingInto.antt` and `HandingIntoPlain.antt` ask of a function's types: of its plain parameters, and of what it hands back.
---     number, declared     an unsigned number and a declared type of plain fields, as parameters
+--     number, declared, chosen     an unsigned number, and a declared struct and a declared enum of plain fields, as parameters
 -- Assumes nothing.
 use Rattle.std.proofs.Common.{◌≡◌, ℕ, List, [], ◌∷◌, length, MutBor}
 use seplogic.Ra.Ura.{Ura}
@@ -16,6 +16,9 @@ use denote.RattleType.{RattleType}
 use denote.Struct.Declared.{Declared, row as row_of, fields}
 use denote.Struct.Laws as LL
 use denote.Struct.Struct.{Plains}
+use denote.Enum.Declared as E
+use denote.Enum.Enum.{Few, Plainss}
+use denote.Enum.Laws as EL
 
 -- A plain parameter: its row, its MIR type, the machine value of each value, and its laws.
 pub record Plainly : Type 2 where
@@ -44,6 +47,16 @@ declared T L plain = record {
   tells = LL.tells T L;
   makes = λ 𝓛. LL.makes T plain 𝓛;
   typed = λ 𝓛 x v is. ((LL.lawful T L 𝓛).typed x (v ∷ []) is).0;
+}
+
+abbrev pub chosen : (T : E.Declared) → EL.Laws T → Plainss (E.variants T) → Few (E.shape T) → Plainly
+chosen T L plain few = record {
+  row = E.row T;
+  ty = lone (E.row T).mir;
+  val = EL.val T L;
+  tells = EL.tells T L;
+  makes = λ 𝓛. EL.makes T plain 𝓛;
+  typed = λ 𝓛 x v is. ((EL.lawful T L 𝓛 few).typed x (v ∷ []) is).0;
 }
 
 -- A row, of which nothing is said when the function returns.

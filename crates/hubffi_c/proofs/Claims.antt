@@ -10,7 +10,7 @@ use Rattle.rules.specs.declared.Refusal.{Refusal}
 use Rattle.rules.specs.Table.{accepted}
 use Rattle.rules.specs.Calls.{Call}
 use Rattle.rules.specs.Refusals.{number_of, on_allowed, verdict, step}
-use Rattle.rules.specs.Runs.{final}
+use Rattle.rules.specs.Runs.{final, Event, call, preview, next}
 use Rattle.label.specs.Words.{words}
 use Rattle.monitor.specs.declared.Table.{Table}
 use Rattle.monitor.specs.Table.{hub}
@@ -22,25 +22,26 @@ use Rattle.layout.proofs.Claims.{struct_stands}
 use Rattle.load.specs.Load.{load_of}
 use Rattle.load.proofs.Accepted.{loads_accepted}
 use Rattle.hubffi_c.specs.Answers.{answered, reply_to, audit_answer, loaded_as}
-use Rattle.hubffi_c.specs.Claims.{CallsAsRules}
+use Rattle.hubffi_c.specs.Claims.{kept_after, CallsAsRules}
 use Rattle.rules.specs.declared.Refusal.TheVariants.{Formless}
 
-next : (s : HubTable) (c : Call words) (v : Outcome) → verdict hub (table_of s) c ≡ v
+struct-step : (s : HubTable) (c : Call words) (v : Outcome) → verdict hub (table_of s) c ≡ v
     → table_of (on_allowed v (struct_of (step hub (table_of s) c)) s) ≡ step hub (table_of s) c
-next s c (Ok _) e = struct_stands.table_back (step hub (table_of s) c)
-next s c (Err n) e = sym (refusals_move_nothing hub (table_of s) c n e).table
+struct-step s c (Ok _) e = struct_stands.table_back (step hub (table_of s) c)
+struct-step s c (Err n) e = sym (refusals_move_nothing hub (table_of s) c n e).table
 
 call-table : (s : HubTable) (c : Call words) → table_of (reply_to s c).table ≡ step hub (table_of s) c
 unfolding answered reply
-call-table s c = next s c (verdict hub (table_of s) c) refl
+call-table s c = struct-step s c (verdict hub (table_of s) c) refl
 
 refused : (s : HubTable) (c : Call words) (n : Refusal) → verdict hub (table_of s) c ≡ Err n → (reply_to s c).table ≡ s
 unfolding answered reply
 refused s c n e = ap (λ (v : Outcome). on_allowed v (struct_of (step hub (table_of s) c)) s) e
 
-call-runs : (s : HubTable) (cs : List (Call words)) → table_of (final (λ u c. (reply_to u c).table) s cs) ≡ final (step hub) (table_of s) cs
+call-runs : (s : HubTable) (es : List (Event words)) → table_of (final kept_after s es) ≡ final (next hub) (table_of s) es
 call-runs s [] = refl
-call-runs s (c ∷ cs) = call-runs (reply_to s c).table cs ∙ ap (λ (t : Table). final (step hub) t cs) (call-table s c)
+call-runs s (call c ∷ es) = call-runs (reply_to s c).table es ∙ ap (λ (t : Table). final (next hub) t es) (call-table s c)
+call-runs s (preview c ∷ es) = call-runs s es
 
 by_99 : (s : HubTable) (c : Call words) → kinds_known s.slots ≡ false → verdict hub (table_of s) c ≡ Err Formless
 by_99 s c h = rw (struct_stands.unknown s h)

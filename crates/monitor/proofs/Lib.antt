@@ -4,4 +4,5 @@ pub mod Look
 pub mod Finish
 pub mod Written
 pub mod ShowLaws
+pub mod PreviewLaws
 pub mod AuditLaws

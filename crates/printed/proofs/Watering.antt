@@ -1,6 +1,6 @@
 -- The round from its text: reading is computed; the played calls are those of the worked round, whose table holds the same.
 -- Assumes nothing.
-use mathlib.Core.Path.{◌≡◌, refl, ap, ◌∙◌}
+use mathlib.Core.Path.{◌≡◌, refl, ap, sym, ◌∙◌}
 use mathlib.Core.Bool.{Bool, true, false, cond}
 use mathlib.Core.List.{List, ◌∷◌, ◌++◌}
 use Prim.Native.Nat.{ℕ, ◌<◌}
@@ -10,10 +10,11 @@ use lib.ListN.{replicate}
 use borrow.Author.Tests.{ltb-true, eqb-true}
 use Rattle.rules.specs.Table.{Slot, free, plain, slot_formed}
 use Rattle.rules.specs.Refusals.{step}
-use Rattle.rules.specs.Runs.{trace}
+use Rattle.rules.specs.Runs.{trace, call_of, calls_in}
 use Rattle.rules.specs.SameSlots.{HoldSame}
 use Rattle.rules.proofs.Facts.{and_left, either}
 use Rattle.rules.proofs.Plain.{plain_laws}
+use Rattle.rules.proofs.Previews.{alone_gives}
 use Rattle.rules.proofs.SameSlots.{answers_by_slots}
 use Rattle.label.specs.Tags.{label_of, digit_in, with_digit}
 use Rattle.label.specs.Words.{words}
@@ -21,7 +22,7 @@ use Rattle.label.proofs.Words.{words_order}
 use Rattle.entity.specs.declared.Entity.{Entity}
 use Rattle.entity.specs.Entity.{slot_of}
 use Rattle.block.specs.Block.{block_at}
-use Rattle.cases.specs.Rounds.{calls_made, told, round_table, round}
+use Rattle.cases.specs.Rounds.{events, told, round_table, round}
 use Rattle.cases.proofs.Sure.{round_told}
 use Rattle.cases.proofs.Cases.{computed, round_holds}
 use Rattle.monitor.specs.declared.Table.{Table}
@@ -52,7 +53,7 @@ accepted : verdict_of watering ≡ Ok tt
 unfolding reading
 accepted = refl
 
-calls : calls_of watering ≡ calls_made round
+calls : calls_of watering ≡ calls_in (events round)
 unfolding reading
 calls = refl
 
@@ -137,9 +138,10 @@ held = record {
 
 -- ---- what is printed
 
-lines : trace (step hub) answer_line t3 (calls_made round) ≡ told (λ l. call_line l.entry l.part) round
+lines : trace (step hub) answer_line t3 (calls_in (events round)) ≡ told (λ l. call_line l.entry l.part) round
 lines =
-    (answers_by_slots words_order hub (plain words) hub_laws (plain_laws words) t3 round_table (calls_made round) held).answers ℕ (λ a. call_line a.entry a.part)
+    sym (alone_gives hub (λ u e. answer_line u (call_of e)) t3 (calls_in (events round)))
+    ∙ (answers_by_slots words_order hub (plain words) hub_laws (plain_laws words) t3 round_table (events round) held).answers ℕ (λ a. call_line a.entry a.part)
     ∙ round_told (plain words) (plain_laws words) (λ e bs. call_line e bs) round_table round round_holds.plays
 
 spelt : names_line ++ told (λ l. call_line l.entry l.part) round ≡ watering_prints

@@ -3,9 +3,10 @@
 -- Assumes nothing.
 use Rattle.std.specs.Prelude.{◌≡◌, List, ◌++◌, ℕ, Ok}
 use Rattle.rules.specs.Table.{plain}
+use Rattle.rules.specs.Runs.{calls_in}
 use Rattle.rules.specs.SameSlots.{HoldSame}
 use Rattle.label.specs.Words.{words}
-use Rattle.cases.specs.Rounds.{calls_made, round_table, round}
+use Rattle.cases.specs.Rounds.{events, round_table, round}
 use Rattle.monitor.specs.Table.{hub}
 use Rattle.text.specs.Ascii.{ascii}
 use Rattle.load.specs.Load.{verdict_of, load_of}
@@ -45,5 +46,5 @@ watering_prints =
 pub record WateringPrinted : Type 0 where
   pub verdict : verdict_of watering ≡ Ok tt
   pub table : HoldSame hub (plain words) (load_of watering).table round_table
-  pub calls : calls_of watering ≡ calls_made round
+  pub calls : calls_of watering ≡ calls_in (events round)
   pub output : output_of watering ≡ watering_prints

@@ -3,7 +3,7 @@
 use Rattle.std.specs.Prelude.{◌≡◌, List, ◌++◌, ℕ, ◌-◌, ◌≤◌, ltb, length, Ok}
 use Rattle.rules.specs.Calls.{Call}
 use Rattle.rules.specs.Refusals.{step}
-use Rattle.rules.specs.Runs.{final, trace, records}
+use Rattle.rules.specs.Runs.{final, trace, calls_alone, next, records}
 use Rattle.label.specs.Words.{words}
 use Rattle.monitor.specs.declared.Table.{Table}
 use Rattle.monitor.specs.Table.{hub}
@@ -76,10 +76,10 @@ OutputInChunks = (text : List ℕ) (room : ℕ) → line_size ≤ room
 abbrev pub records_room : ℕ
 records_room = 174752
 
--- For an accepted text and every table, such a buffer takes the records of all its calls: they are those of the rules' run,
--- the table is that after it, and no line is left
+-- For an accepted text and every table, such a buffer takes the records of all its calls: they are those of the rules' run of its
+-- calls alone, the table is that after it, and no line is left
 abbrev pub RecordsRun : Type 0
 RecordsRun = (text : List ℕ) (room : ℕ) (t : Table) → verdict_of text ≡ Ok tt → records_room ≤ room
-    → ((chunk (call_pieces text entries) room (first_at text, t)).0 ≡ records hub t (calls_of text))
-    × ((chunk (call_pieces text entries) room (first_at text, t)).1.1 ≡ final (step hub) t (calls_of text))
+    → ((chunk (call_pieces text entries) room (first_at text, t)).0 ≡ records hub t (calls_alone (calls_of text)))
+    × ((chunk (call_pieces text entries) room (first_at text, t)).1.1 ≡ final (next hub) t (calls_alone (calls_of text)))
     × (length text ≤ (chunk (call_pieces text entries) room (first_at text, t)).1.0)

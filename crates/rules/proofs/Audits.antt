@@ -17,14 +17,14 @@ use Rattle.rules.specs.Table.{is_free, is_item, is_program, Tables, at}
 use Rattle.rules.specs.Calls.{Call, caller_of, other_of}
 use Rattle.rules.specs.Refusals.{allow, ◌if◌else◌, first, step}
 use Rattle.rules.specs.Record.{answer, visible, records_in, shown_of, audit}
-use Rattle.rules.specs.Runs.{final, trace, records}
+use Rattle.rules.specs.Runs.{final, trace, Event, call, preview, next, records}
 use Rattle.rules.specs.Laws.{OrderLaws}
-use Rattle.rules.specs.Audits.{joined, size, nth_record, shown_to, AuditByNumber, is_for, records_for, RunsAudited}
+use Rattle.rules.specs.Audits.{joined, size, nth_record, shown_to, AuditByNumber, is_for, record_for, records_for, RunsAudited}
 use Rattle.rules.proofs.Facts.{iff}
 use Rattle.rules.proofs.ByNumber.{no_program, is_99, is_1}
 use Rattle.rules.proofs.Refused.{filled-rest}
 use Rattle.rules.proofs.Shows.{records_show}
-use Rattle.rules.proofs.Records.{records_whole, records_shown}
+use Rattle.rules.proofs.Records.{shows_to, records_whole, records_shown}
 use Rattle.rules.specs.declared.Refusal.TheVariants.{NoProgram, ListNotWhole, NoRoomForRecords, Formless}
 
 -- a multiple: what the quotient gives back, or what leaves no rest
@@ -39,14 +39,14 @@ module _ (A : Labels) (l : A.Label) where
   adds list k = cond (visible A l (nth_record A list k)) (nth_record A list k) []
 
   -- the records from the second on are those of the rest
-  next : (list : List ℕ) (k : ℕ) → adds list (suc k) ≡ adds (drop (size A) list) k
-  next list k = ap (λ (r : List ℕ). cond (visible A l r) r []) (ap (take (size A))
+  later : (list : List ℕ) (k : ℕ) → adds list (suc k) ≡ adds (drop (size A) list) k
+  later list k = ap (λ (r : List ℕ). cond (visible A l r) r []) (ap (take (size A))
       (ap (λ (n : ℕ). drop n list) (suc-mul k (size A) ∙ add_comm (k * size A) (size A)) ∙ sym (drop-drop (k * size A) (size A) list)))
 
   places : (n : ℕ) (list : List ℕ) → joined n (adds list) ≡ shown_of A l (records_in A n list)
   unfolding joined records_in shown_of
   places zero list = refl
-  places (suc n) list = (λ z. first-at z ++ joined n (λ k. next list k z)) ∙ go (visible A l (take (size A) list)) (places n (drop (size A) list))
+  places (suc n) list = (λ z. first-at z ++ joined n (λ k. later list k z)) ∙ go (visible A l (take (size A) list)) (places n (drop (size A) list))
     where
       first-at : adds list 0 ≡ cond (visible A l (take (size A) list)) (take (size A) list) []
       first-at = ap (λ (n : ℕ). cond (visible A l (take (size A) (drop n list))) (take (size A) (drop n list)) []) (zero-mul (size A))
@@ -91,22 +91,26 @@ module _ {A : Labels} (O : OrderLaws A) (T : Tables A) where
       go true Item = refl
       go true Program = refl
 
-  shown_run : (l : A.Label) (t : T.Table) (cs : List (Call A)) → shown_of A l (records_in A (length (records T t cs) / size A) (records T t cs)) ≡ records_for T l t cs
-  shown_run l t cs = records_shown O T l t cs ∙ (λ z. trace (step T) (λ u c. cond (is-for l u c z) (answer T u c).entry []) t cs)
+  adds-for : (l : A.Label) (t : T.Table) (e : Event A) → shows_to T l t e ≡ record_for T l t e
+  adds-for l t (call c) = let q = is-for l t c in λ z. cond (q z) (answer T t c).entry []
+  adds-for l t (preview c) = refl
+
+  shown_run : (l : A.Label) (t : T.Table) (es : List (Event A)) → shown_of A l (records_in A (length (records T t es) / size A) (records T t es)) ≡ records_for T l t es
+  shown_run l t es = records_shown O T l t es ∙ (λ z. trace (next T) (λ u e. adds-for l u e z) t es)
 
   pub runs_audited : RunsAudited T
-  runs_audited t cs i buf = record {
+  runs_audited t es i buf = record {
     outcome = let k = no_program (at T u i).kind in
         (λ z. first (Formless if not (T.formed u) else NoProgram if not (is_program (at T u i).kind) else ListNotWhole if not (eqb (whole z) 0) else NoRoomForRecords if ltb (length buf) (length (shown z)) else allow))
-        ∙ sym (λ z. first (Formless if not (T.formed u) else NoProgram if k z else NoRoomForRecords if ltb (length buf) (length (records_for T (at T u i).sec t cs)) else allow));
+        ∙ sym (λ z. first (Formless if not (T.formed u) else NoProgram if k z else NoRoomForRecords if ltb (length buf) (length (records_for T (at T u i).sec t es)) else allow));
     part = λ e. rw e shown;
   }
     where
       u : T.Table
-      u = final (step T) t cs
+      u = final (next T) t es
 
-      whole : length (records T t cs) % size A ≡ 0
-      whole = records_whole O T t cs
+      whole : length (records T t es) % size A ≡ 0
+      whole = records_whole O T t es
 
-      shown : shown_of A (at T u i).sec (records_in A (length (records T t cs) / size A) (records T t cs)) ≡ records_for T (at T u i).sec t cs
-      shown = shown_run (at T u i).sec t cs
+      shown : shown_of A (at T u i).sec (records_in A (length (records T t es) / size A) (records T t es)) ≡ records_for T (at T u i).sec t es
+      shown = shown_run (at T u i).sec t es

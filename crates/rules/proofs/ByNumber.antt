@@ -6,6 +6,7 @@ use mathlib.Core.List.{List, [], ◌∷◌}
 use Prim.Native.Nat.{ℕ}
 use lib.Dec.{eqb}
 use borrow.Author.Tests.{eq-eqb}
+use Rattle.std.proofs.Math.Bool.{or-false, and-false, and-true}
 use Rattle.rules.specs.declared.Kind.{Kind}
 use Rattle.rules.specs.declared.Kind.TheVariants.{Free, Item, Program}
 use Rattle.rules.specs.Labels.{Labels}
@@ -25,20 +26,16 @@ no_program Free = refl
 no_program Item = refl
 no_program Program = refl
 
-or-none : (b : Bool) → b || false ≡ b
-or-none true = refl
-or-none false = refl
-
 module _ {A : Labels} where
   same : (gs : List A.Group) (a b : Slot A) (c : Call A) → first (by_number gs a b c) ≡ first (refusals gs a b c)
   same gs a b (put i bs) = rw (no_program a.kind)
   same gs a b (show i buf) = rw (no_program a.kind)
-  same gs a b (send i j) = simp (no_program, or-none)
-  same gs a b (fetch i j) = simp (no_program, or-none)
-  same gs a b (add_tag i n p) = simp (no_program, or-none)
-  same gs a b (drop_tag i n p) = simp (no_program, or-none)
-  same gs a b (create i j n) = simp (no_program, or-none)
-  same gs a b (release i j) = simp (no_program, or-none)
+  same gs a b (send i j) = simp (no_program, or-false)
+  same gs a b (fetch i j) = simp (no_program, or-false)
+  same gs a b (add_tag i n p) = simp (no_program, or-false)
+  same gs a b (drop_tag i n p) = simp (no_program, or-false)
+  same gs a b (create i j n) = simp (no_program, or-false)
+  same gs a b (release i j) = simp (no_program, or-false)
   same gs a b (hand i j n p) = rw (no_program a.kind)
 
   pub flow_ignores_rights : FlowIgnoresRights A
@@ -70,17 +67,36 @@ numbers_listed = record { calls = refl; audits = refl }
 
 pub struck_by_number : {A : Labels} (T : Tables A) → StruckByNumber T
 struck_by_number T H t c = let m = (kinds_move c).moves in record {
-  all = go (at T t (caller_of c)).kind m;
-  of_programs = ap (λ (b : Bool). hides H (caller_of c) (at T t (caller_of c)) && (is_program (at T t (caller_of c)).kind && b)) m;
+  calls = by_calls (at T t (caller_of c)).kind m;
+  previews = by_previews (at T t (caller_of c)).kind h;
+  calls_of_programs = calls-alone (at T t (caller_of c)).kind h m;
+  previews_of_programs = previews-alone (at T t (caller_of c)).kind h;
 }
   where
     h : Bool
     h = hides H (caller_of c) (at T t (caller_of c))
 
-    go : (k : Kind) {n : Bool} → moves_content c ≡ n → h && may_differ k c ≡ h && (is_item k || (is_program k && n))
-    go Free e = refl
-    go Item e = refl
-    go Program e = ap (λ (b : Bool). h && b) e
+    by_calls : (k : Kind) {n : Bool} → moves_content c ≡ n → h && may_differ k c ≡ h && (is_item k || (is_program k && n))
+    by_calls Free e = refl
+    by_calls Item e = refl
+    by_calls Program e = ap (λ (b : Bool). h && b) e
+
+    by_previews : (k : Kind) (b : Bool) → not (is_free k) && b ≡ b && (is_item k || is_program k)
+    by_previews Free b = sym (and-false b)
+    by_previews Item b = sym (and-true b)
+    by_previews Program b = sym (and-true b)
+
+    -- of programs alone
+    calls-alone : (k : Kind) (b : Bool) {n : Bool} → moves_content c ≡ n → (b && may_differ k c) && is_program k ≡ b && (is_program k && n)
+    calls-alone k false e = refl
+    calls-alone Free true e = refl
+    calls-alone Item true e = refl
+    calls-alone Program true e = and-true (moves_content c) ∙ e
+
+    previews-alone : (k : Kind) (b : Bool) → (not (is_free k) && b) && is_program k ≡ b && is_program k
+    previews-alone Free b = sym (and-false b)
+    previews-alone Item b = refl
+    previews-alone Program b = refl
 
 -- ---- 1 and 99
 

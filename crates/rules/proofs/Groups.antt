@@ -1,4 +1,4 @@
--- No sequence of calls takes an accepted table to one that is not.
+-- No sequence of calls and previews takes an accepted table to one that is not.
 -- Assumes nothing.
 use mathlib.Core.Path.{◌≡◌, refl, sym, ◌∙◌}
 use mathlib.Core.Bool.{Bool, true, false, cond, not, ◌&&◌, ◌||◌}
@@ -12,6 +12,7 @@ use Rattle.rules.specs.Labels.{Labels}
 use Rattle.rules.specs.Table.{is_free, is_program, Rights, Slot, Tables, held, keeps_each, keeps_all, slot_keeps, at, accepted}
 use Rattle.rules.specs.Calls.{Call, put, show, send, fetch, add_tag, drop_tag, create, release, hand, caller_of, other_of, new_kind, add_right, relabel, created, written}
 use Rattle.rules.specs.Refusals.{refusals, step}
+use Rattle.rules.specs.Runs.{call, preview}
 use Rattle.rules.specs.Laws.{OrderLaws, TableLaws}
 use Rattle.rules.specs.Claims.{StaysAccepted}
 use Rattle.rules.proofs.Facts.{not-false, and_left, and_right, both, or_right, either, condition}
@@ -138,5 +139,6 @@ module _ {A : Labels} (O : OrderLaws A) where
 
     pub stays_accepted : StaysAccepted T
     stays_accepted t [] h = record { accepted = h; groups = refl }
-    stays_accepted t (c ∷ cs) h = let k = stays_accepted (step T t c) cs (step-accepted t c h) in
+    stays_accepted t (preview c ∷ es) h = stays_accepted t es h
+    stays_accepted t (call c ∷ es) h = let k = stays_accepted (step T t c) es (step-accepted t c h) in
         record { accepted = k.accepted; groups = k.groups ∙ step_groups T O L t c }

@@ -121,7 +121,7 @@ module _ {A : Labels} (H : Hidden A) where
       low_moved (release i j) k l h r = refl
       low_moved (hand i j n p) k l h r = refl
 
-      pub low_written : (c : Call A) → G.bars a c ≡ false → safely G (caller_of c) a ≡ true → safely G (other_of c) b ≡ true → struck_by H a c ≡ false
+      pub low_written : (c : Call A) → (not (is_program a.kind) ≡ false → hides H (caller_of c) a ≡ true → G.bars a c ≡ false) → safely G (caller_of c) a ≡ true → safely G (other_of c) b ≡ true → struck_by H a c ≡ false
           → ((n : ℕ) → condition n (refusals gs a b c) ≡ false)
           → low H (target c) (written (low H (caller_of c) a) (low H (other_of c) b) c) ≡ low H (target c) (written a b c)
       low_written (put i bs) m k l h r = refl
@@ -129,7 +129,7 @@ module _ {A : Labels} (H : Hidden A) where
       low_written (send i j) m k l h r = rw (seen (send i j) a refl h (r 1))
       low_written (fetch i j) m k l h r = rw (source i j k l h r)
       low_written (add_tag i n p) m k l h r = low_under i a (relabel n (A.insert p) a) a.content (L.adds n p i a (not-false _ (r 10)) k)
-      low_written (drop_tag i n p) m k l h r = low_under i a (relabel n (A.remove p) a) a.content (L.drops n p i a m (not-false _ (r 10)) k)
+      low_written (drop_tag i n p) m k l h r = low_under i a (relabel n (A.remove p) a) a.content (λ e. L.drops n p i a (m (r 1) e) (not-false _ (r 10)) k e)
       low_written (create i j n) m k l h r = refl
       low_written (release i j) m k l h r = refl
       low_written (hand i j n p) m k l h r = low_under j b (with_rights b (grant n p b.rights)) b.content (λ e. e)

@@ -12,6 +12,7 @@ pub mod Unwinding
 pub mod Hiding
 pub mod TwoRuns
 pub mod Records
+pub mod Previews
 pub mod Audits
 pub mod Secrecy
 pub mod Integrity

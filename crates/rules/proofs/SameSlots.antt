@@ -13,6 +13,7 @@ use Rattle.rules.specs.Table.{Slot, Tables, at}
 use Rattle.rules.specs.Calls.{Call, fields_of, caller_of, other_of, target, written, moved, is_show, lent}
 use Rattle.rules.specs.Refusals.{◌if◌else◌, first, number_of, on_allowed, refusals, verdict, step}
 use Rattle.rules.specs.Record.{Answer, filled, record_of, need_by, answer}
+use Rattle.rules.specs.Runs.{Event, call, preview, call_of, next}
 use Rattle.rules.specs.Laws.{OrderLaws, TableLaws}
 use Rattle.rules.specs.SameSlots.{HoldSame, AnswersBySlots}
 use Rattle.rules.proofs.Steps.{pass, writes, stored_at, step_formed, step_groups}
@@ -55,8 +56,8 @@ module _ {A : Labels} (O : OrderLaws A) (T U : Tables A) (L : TableLaws T) (M : 
             let s = h.slots i in
             stored_at T O L t c (pass T t c e) i ∙ (λ z. cond (eqb i (target c)) (written (a z) (b z) c) (s z)) ∙ sym (stored_at U O M u c (pass U u c k) i)
 
-    same_step : HoldSame T U (step T t c) (step U u c)
-    same_step = record {
+    after_call : HoldSame T U (step T t c) (step U u c)
+    after_call = record {
       left = step_formed T O L t c h.left;
       right = step_formed U O M u c h.right;
       slots = same-slot;
@@ -73,10 +74,14 @@ module _ {A : Labels} (O : OrderLaws A) (T U : Tables A) (L : TableLaws T) (M : 
         let s = ap (λ (x : Slot A). x.sec) (same-slot (caller_of c)) in
         λ z. answer_by (f z) (g z) (a z) (b z) (s z) c
 
+  same_next : (t : T.Table) (u : U.Table) (e : Event A) → HoldSame T U t u → HoldSame T U (next T t e) (next U u e)
+  same_next t u (call c) h = after_call t u h c
+  same_next t u (preview c) h = h
+
   pub answers_by_slots : AnswersBySlots T U
   answers_by_slots t u [] h = record { answers = λ X f. refl; tables = h }
-  answers_by_slots t u (c ∷ cs) h =
-      let r = answers_by_slots (step T t c) (step U u c) cs (same_step t u h c) in record {
-        answers = λ X f. let a = same_answer t u h c in let rest = r.answers X f in λ z. f (a z) ++ rest z;
+  answers_by_slots t u (e ∷ es) h =
+      let r = answers_by_slots (next T t e) (next U u e) es (same_next t u e h) in record {
+        answers = λ X f. let a = same_answer t u h (call_of e) in let rest = r.answers X f in λ z. f (a z) ++ rest z;
         tables = r.tables;
       }

@@ -16,7 +16,7 @@ use Rattle.rules.specs.Table.{is_free, is_item, is_program, Rights, Slot, Tables
 use Rattle.rules.specs.Calls.{Call, put, show, send, fetch, add_tag, drop_tag, create, release, hand, right_at, grant, kind_of, caller_of, other_of, written}
 use Rattle.rules.specs.Refusals.{first, on_allowed, refusals, verdict, step}
 use Rattle.rules.specs.Record.{need_by, need_of, answer, visible, record_size, records_in, shown_of, auditable, audit_refusals}
-use Rattle.rules.specs.Runs.{Hidden, bears, TablesAgree, may_differ, final, never, hidden_at, struck, struck_of_programs, heard, records}
+use Rattle.rules.specs.Runs.{final, never, Event, call, preview, next, records, Hidden, bears, TablesAgree, may_differ, hidden_at, struck, struck_of_programs, heard}
 use Rattle.rules.specs.Laws.{OrderLaws, TagLaws, TableLaws}
 use Rattle.rules.specs.Claims.{AuditsAlike, SecretRuns, Secrecy, SecrecyOfPrograms, OthersAreHeard, drops_tag, UndroppedRuns, SecrecyUndropped}
 use Rattle.rules.proofs.Facts.{not-false, not-true, not_of, and_left, and_right, both, contra, either, condition}
@@ -136,7 +136,7 @@ module _ {A : Labels} (p : A.Tag) (G : TagLaws A p) (O : OrderLaws A) (T : Table
   W = secrecy_hides p G
 
   -- the need of a struck call bears the tag
-  struck-need : (t : T.Table) (c : Call A) → T.formed t ≡ true → struck T H t c ≡ true → A.has (need_of T t c) p ≡ true
+  struck-need : (t : T.Table) (c : Call A) → T.formed t ≡ true → struck T H t (call c) ≡ true → A.has (need_of T t c) p ≡ true
   struck-need t c f h = go (T.formed t) (at T t (caller_of c)).kind f (and_right (A.has (at T t (caller_of c)).sec p) _ h)
     where
       a : A.Label
@@ -158,30 +158,39 @@ module _ {A : Labels} (p : A.Tag) (G : TagLaws A p) (O : OrderLaws A) (T : Table
       go true Program e m = G.below_has a (A.join (A.join a b) o) up (and_left (A.has a p) _ h)
 
   -- so its record shows to nobody without the tag
-  struck_unseen : (l : A.Label) → A.has l p ≡ false → (t : T.Table) (c : Call A) → T.formed t ≡ true → struck T H t c ≡ true
+  struck_unseen : (l : A.Label) → A.has l p ≡ false → (t : T.Table) (c : Call A) → T.formed t ≡ true → struck T H t (call c) ≡ true
       → visible A l (answer T t c).entry ≡ false
   struck_unseen l n t c f h = shows O T t c l
       ∙ contra (A.below (need_of T t c) l) (A.has l p) (λ e. G.below_has (need_of T t c) l e (struck-need t c f h)) n
 
   shown_alike : (l : A.Label) → A.has l p ≡ false → Output (unwinding T O L H D W) (shows_to T l)
   shown_alike l n = record {
-    none = λ t u c m a h. rw (struck_unseen l n t c a.left h);
-    same = λ t u c m n a h g. let r = answer_alike T O L H D W t u c m n a h g in
-        λ z. cond (visible A l (r z).entry) (r z).entry [];
+    none = λ t u e m a h. none t u e a h;
+    same = λ t u e m k a h g. same t u e m k a h g;
   }
+    where
+      none : (t u : T.Table) (e : Event A) → Alike T H D t u → struck T H t e ≡ true → shows_to T l t e ≡ []
+      none t u (call c) a h = rw (struck_unseen l n t c a.left h)
+      none t u (preview c) a h = refl
+
+      same : (t u : T.Table) (e : Event A) → barred_at T O L H D W t e ≡ false → barred_at T O L H D W u e ≡ false → Alike T H D t u → struck T H t e ≡ false → struck T H u e ≡ false
+          → shows_to T l t e ≡ shows_to T l u e
+      same t u (call c) m k a h g = let r = answer_alike T O L H D W t u (call c) m k a h g in λ z. cond (visible A l (r z).entry) (r z).entry []
+      same t u (preview c) m k a h g = refl
 
   -- ---- the claims
 
   -- a barred call is an allowed drop of the tag
-  barred_is : (t : T.Table) (c : Call A) → barred_at T O L H D W t c ≡ drops_tag T p t c
-  barred_is t c = go c (verdict T t c) refl
+  barred_is : (t : T.Table) (e : Event A) → barred_at T O L H D W t e ≡ drops_tag T p t e
+  barred_is t (preview c) = refl
+  barred_is t (call c) = go c (verdict T t c) refl
     where
       unmoved : (k x : Bool) → false ≡ k && (x && not x)
       unmoved true true = refl
       unmoved true false = refl
       unmoved false x = refl
 
-      go : (c : Call A) (v : Outcome) → verdict T t c ≡ v → on_allowed v (takes p (at T t (caller_of c)) c) false ≡ drops_tag T p t c
+      go : (c : Call A) (v : Outcome) → verdict T t c ≡ v → on_allowed v (takes p (at T t (caller_of c)) c) false ≡ drops_tag T p t (call c)
       go c (Err n) e = rw e (unmoved (eqb (kind_of c) 6) (A.has (at T t (caller_of c)).sec p))
       go (put i bs) (Ok _) e = refl
       go (show i buf) (Ok _) e = refl
@@ -200,72 +209,73 @@ module _ {A : Labels} (p : A.Tag) (G : TagLaws A p) (O : OrderLaws A) (T : Table
   auditor_lacks Item b h e = h
   auditor_lacks Program b h e = h
 
-  not_barred : (t : T.Table) (cs : List (Call A)) → never (step T) (drops_tag T p) t cs ≡ true → never (step T) (barred_at T O L H D W) t cs ≡ true
-  not_barred t cs e = (λ z. never (step T) (λ v c. barred_is v c z) t cs) ∙ e
+  not_barred : (t : T.Table) (es : List (Event A)) → never (next T) (drops_tag T p) t es ≡ true → never (next T) (barred_at T O L H D W) t es ≡ true
+  not_barred t es q = (λ z. never (next T) (λ v e. barred_is v e z) t es) ∙ q
 
   alike_at_first : (t u : T.Table) → accepted T t ≡ true → accepted T u ≡ true → TablesAgree T H t u → Alike T H D t u
   alike_at_first t u f g d = differ_alike T O L H D W t u (and_left (T.formed t) _ f) (and_left (T.formed u) _ g) d (λ i. refl)
 
   pub secrecy_undropped : SecrecyUndropped T p
-  secrecy_undropped t u cs ds s = record { runs = runs_alike T O L H D W t u cs ds m n start s.calls; audits = audits }
+  secrecy_undropped t u es fs s = record { runs = runs_alike T O L H D W t u es fs m n start s.events; audits = audits }
     where
-      m : never (step T) (barred_at T O L H D W) t cs ≡ true
-      m = not_barred t cs s.undropped_left
+      m : never (next T) (barred_at T O L H D W) t es ≡ true
+      m = not_barred t es s.undropped_left
 
-      n : never (step T) (barred_at T O L H D W) u ds ≡ true
-      n = not_barred u ds s.undropped_right
+      n : never (next T) (barred_at T O L H D W) u fs ≡ true
+      n = not_barred u fs s.undropped_right
 
       start : Alike T H D t u
       start = alike_at_first t u s.left s.right s.tables
 
-      audits : (i : ℕ) → hidden_at T H (final (step T) t cs) i ≡ false → (buf buf' : List ℕ) → length buf ≡ length buf' → AuditsAlike T t u cs ds i buf buf'
+      audits : (i : ℕ) → hidden_at T H (final (next T) t es) i ≡ false → (buf buf' : List ℕ) → length buf ≡ length buf' → AuditsAlike T t u es fs i buf buf'
       audits i h buf buf' q = record { outcome = ap (λ (r : Outcome × List ℕ). r.0) whole; part = ap (λ (r : Outcome × List ℕ). r.1) whole }
         where
           x : T.Table
-          x = final (step T) t cs
+          x = final (next T) t es
 
           y : T.Table
-          y = final (step T) u ds
+          y = final (next T) u fs
 
           ends : Alike T H D x y
-          ends = (runs (unwinding T O L H D W) (heard T H) (heard_alike T O L H D W) t u cs ds m n start s.calls).ends
+          ends = (runs (unwinding T O L H D W) (heard T H) (heard_alike T O L H D W) t u es fs m n start s.events).ends
 
           l : A.Label
           l = (at T x i).sec
 
-          shown : is_program (at T x i).kind ≡ true → auditable T x i (records T t cs) ≡ auditable T y i (records T u ds)
-          shown e = records_shown O T l t cs
-              ∙ (runs (unwinding T O L H D W) (shows_to T l) (shown_alike l (auditor_lacks (at T x i).kind (A.has l p) h e)) t u cs ds m n start s.calls).gives
-              ∙ sym (records_shown O T l u ds)
-              ∙ ap (λ (z : Slot A). shown_of A z.sec (records_in A (length (records T u ds) / record_size A) (records T u ds))) (ends.slots i)
+          shown : is_program (at T x i).kind ≡ true → auditable T x i (records T t es) ≡ auditable T y i (records T u fs)
+          shown e = records_shown O T l t es
+              ∙ (runs (unwinding T O L H D W) (shows_to T l) (shown_alike l (auditor_lacks (at T x i).kind (A.has l p) h e)) t u es fs m n start s.events).gives
+              ∙ sym (records_shown O T l u fs)
+              ∙ ap (λ (z : Slot A). shown_of A z.sec (records_in A (length (records T u fs) / record_size A) (records T u fs))) (ends.slots i)
 
-          whole : audited (T.formed x) (is_program (at T x i).kind) (eqb (length (records T t cs) % record_size A) 0) (length buf) (auditable T x i (records T t cs))
-              ≡ audited (T.formed y) (is_program (at T y i).kind) (eqb (length (records T u ds) % record_size A) 0) (length buf') (auditable T y i (records T u ds))
+          whole : audited (T.formed x) (is_program (at T x i).kind) (eqb (length (records T t es) % record_size A) 0) (length buf) (auditable T x i (records T t es))
+              ≡ audited (T.formed y) (is_program (at T y i).kind) (eqb (length (records T u fs) % record_size A) 0) (length buf') (auditable T y i (records T u fs))
           whole =
               let f : T.formed x ≡ T.formed y = ends.left ∙ sym ends.right in
               let k : (at T x i).kind ≡ (at T y i).kind = ap (λ (z : Slot A). z.kind) (ends.slots i) in
-              let w : length (records T t cs) % record_size A ≡ length (records T u ds) % record_size A = records_whole O T t cs ∙ sym (records_whole O T u ds) in
-              audited_alike (T.formed x) (is_program (at T x i).kind) (eqb (length (records T t cs) % record_size A) 0) (length buf) _ _ shown
-              ∙ (λ z. audited (f z) (is_program (k z)) (eqb (w z) 0) (q z) (auditable T y i (records T u ds)))
+              let w : length (records T t es) % record_size A ≡ length (records T u fs) % record_size A = records_whole O T t es ∙ sym (records_whole O T u fs) in
+              audited_alike (T.formed x) (is_program (at T x i).kind) (eqb (length (records T t es) % record_size A) 0) (length buf) _ _ shown
+              ∙ (λ z. audited (f z) (is_program (k z)) (eqb (w z) 0) (q z) (auditable T y i (records T u fs)))
 
   -- where nobody can drop the tag no run does
-  never-dropped : (t : T.Table) (cs : List (Call A)) → T.formed t ≡ true → ((i : ℕ) → safely (undroppable A p) i (at T t i) ≡ true) → never (step T) (drops_tag T p) t cs ≡ true
+  never-dropped : (t : T.Table) (es : List (Event A)) → T.formed t ≡ true → ((i : ℕ) → safely (undroppable A p) i (at T t i) ≡ true) → never (next T) (drops_tag T p) t es ≡ true
   never-dropped t [] f s = refl
-  never-dropped t (c ∷ cs) f s = both (not (drops_tag T p t c)) _ (not_of (sym (barred_is t c) ∙ go (verdict T t c) refl))
-      (never-dropped (step T t c) cs (step_formed T O L t c f) (step_safe T O L (undroppable A p) (undroppable_stays p G) t c (λ q. refl) s))
+  never-dropped t (preview c ∷ es) f s = never-dropped t es f s
+  never-dropped t (call c ∷ es) f s = both (not (drops_tag T p t (call c))) _ (not_of (sym (barred_is t (call c)) ∙ go (verdict T t c) refl))
+      (never-dropped (step T t c) es (step_formed T O L t c f) (step_safe T O L (undroppable A p) (undroppable_stays p G) t c (λ q. refl) s))
     where
       go : (v : Outcome) → verdict T t c ≡ v → on_allowed v (takes p (at T t (caller_of c)) c) false ≡ false
       go (Err n) e = refl
       go (Ok _) e = takes_not p G (T.groups t) (at T t (caller_of c)) (at T t (other_of c)) c (s (caller_of c)) (pass T t c e).off
 
-  undropped_runs : (differs : T.Table → Call A → Bool) (t u : T.Table) (cs ds : List (Call A)) → SecretRuns T differs p t u cs ds → UndroppedRuns T differs p t u cs ds
-  undropped_runs differs t u cs ds s = record {
+  undropped_runs : (differs : T.Table → Event A → Bool) (t u : T.Table) (es fs : List (Event A)) → SecretRuns T differs p t u es fs → UndroppedRuns T differs p t u es fs
+  undropped_runs differs t u es fs s = record {
     left = s.left;
     right = s.right;
-    undropped_left = never-dropped t cs f safe;
-    undropped_right = never-dropped u ds (and_left (T.formed u) _ s.right) (λ i. ap (λ (r : Rights A). not (A.has r.sd p)) (sym (s.tables.slots i).rights) ∙ safe i);
+    undropped_left = never-dropped t es f safe;
+    undropped_right = never-dropped u fs (and_left (T.formed u) _ s.right) (λ i. ap (λ (r : Rights A). not (A.has r.sd p)) (sym (s.tables.slots i).rights) ∙ safe i);
     tables = s.tables;
-    calls = s.calls;
+    events = s.events;
   }
     where
       f : T.formed t ≡ true
@@ -275,22 +285,22 @@ module _ {A : Labels} (p : A.Tag) (G : TagLaws A p) (O : OrderLaws A) (T : Table
       safe = nobody_drops p G T O L t f s.undroppable
 
   pub secrecy : Secrecy T p
-  secrecy t u cs ds s = secrecy_undropped t u cs ds (undropped_runs (struck T H) t u cs ds s)
+  secrecy t u es fs s = secrecy_undropped t u es fs (undropped_runs (struck T H) t u es fs s)
 
   pub secrecy_of_programs : SecrecyOfPrograms T p
-  secrecy_of_programs t u cs ds s = secrecy t u cs ds (record {
+  secrecy_of_programs t u es fs s = secrecy t u es fs (record {
     left = s.left;
     right = s.right;
     undroppable = s.undroppable;
     tables = s.tables;
-    calls = programs_alone T O L H D W t u cs ds (not_barred t cs r.undropped_left) (not_barred u ds r.undropped_right) (alike_at_first t u s.left s.right s.tables) s.calls;
+    events = programs_alone T O L H D W t u es fs (not_barred t es r.undropped_left) (not_barred u fs r.undropped_right) (alike_at_first t u s.left s.right s.tables) s.events;
   })
     where
-      r : UndroppedRuns T (struck_of_programs T H) p t u cs ds
-      r = undropped_runs (struck_of_programs T H) t u cs ds s
+      r : UndroppedRuns T (struck_of_programs T H) p t u es fs
+      r = undropped_runs (struck_of_programs T H) t u es fs s
 
   pub others_are_heard : OthersAreHeard T p
-  others_are_heard t = record { answered = λ c h. rw (lacking (at T t (caller_of c)).kind h); auditor = λ i h. lacking (at T t i).kind h }
+  others_are_heard t = record { answered = λ c h. rw (lacking (at T t (caller_of c)).kind h); told = λ c h. rw (lacking (at T t (caller_of c)).kind h); auditor = λ i h. lacking (at T t i).kind h }
     where
       lacking : (k : Kind) {b : Bool} → b ≡ false → not (is_free k) && b ≡ false
       lacking Free h = refl

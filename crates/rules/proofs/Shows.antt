@@ -1,7 +1,8 @@
 -- To whom the record of a call shows.
 -- Assumes nothing.
-use mathlib.Core.Path.{◌≡◌, refl, ◌∙◌}
+use mathlib.Core.Path.{◌≡◌, refl, sym, ◌∙◌}
 use mathlib.Core.Bool.{Bool, true, false, cond, not, ◌&&◌, ◌||◌}
+use Rattle.std.proofs.Math.Bool.{and-true}
 use Rattle.rules.specs.declared.Kind.{Kind}
 use Rattle.rules.specs.declared.Kind.TheVariants.{Free, Item, Program}
 use Rattle.rules.specs.Labels.{Labels}
@@ -39,13 +40,9 @@ module _ {A : Labels} (O : OrderLaws A) where
         o : A.Label
         o = (at T t (other_of c)).sec
 
-        and-true : (x : Bool) → x ≡ x && true
-        and-true true = refl
-        and-true false = refl
-
         go : (z : Bool) (k : Kind) → A.below (cond z (need_by A k a b o) A.empty) l
             ≡ not (z && not (is_free k)) || (A.below a l && (is_item k || (A.below b l && A.below o l)))
         go true Free = O.empty_below l
-        go true Item = and-true (A.below a l)
+        go true Item = sym (and-true (A.below a l))
         go true Program = three-below a b o l
         go false k = O.empty_below l

@@ -1,4 +1,4 @@
--- Two runs that are the same but for struck calls, from tables that differ only in hidden contents. For any labels and
+-- Two runs that are the same but for struck calls and previews, from tables that differ only in hidden contents. For any labels and
 -- tables with the laws, and anything that may be hidden.
 -- Assumes nothing.
 use mathlib.Core.Path.{◌≡◌, refl, ap, sym, ◌∙◌}
@@ -17,10 +17,10 @@ use Rattle.rules.specs.Table.{is_free, is_program, Slot, Tables, at}
 use Rattle.rules.specs.Calls.{Call, put, show, send, fetch, add_tag, drop_tag, create, release, hand, fields_of, caller_of, other_of, target, written, moved, moves_content, is_show, lent}
 use Rattle.rules.specs.Refusals.{first, number_of, on_allowed, refusals, verdict, step}
 use Rattle.rules.specs.Record.{Answer, filled, record_of, need_by, need_of, moved_by, answer}
-use Rattle.rules.specs.Runs.{Hidden, hides, may_differ, struck_by, SlotsAgree, TablesAgree, hidden_at, struck, struck_of_programs, heard, final, kept, never}
+use Rattle.rules.specs.Runs.{final, kept, never, Event, call, preview, call_of, made_by, next, Hidden, hides, may_differ, struck_by, SlotsAgree, TablesAgree, hidden_at, struck, struck_of_programs, heard}
 use Rattle.rules.specs.Laws.{OrderLaws, TableLaws}
 use Rattle.rules.specs.Claims.{RunsAlike}
-use Rattle.rules.proofs.Facts.{and_left, and_right, both}
+use Rattle.rules.proofs.Facts.{and_left, and_right}
 use Rattle.rules.proofs.Steps.{Pass, pass, writes, stored_at, step_formed, step_groups, step_all}
 use Rattle.rules.proofs.Unwinding.{Unwinding, Output, runs, kept_alike}
 use Rattle.rules.proofs.Hiding.{Guard, safely, SafeLaws, HidingLaws, low, was, low_refusals, low_moved, low_written, struck_written, safe_written}
@@ -94,15 +94,16 @@ module _ {A : Labels} (T : Tables A) (O : OrderLaws A) (L : TableLaws T) (H : Hi
 
   -- ---- a call on each of two tables that look alike
 
-  -- a barred call
-  abbrev pub barred_at : T.Table → Call A → Bool
-  barred_at t c = on_allowed (verdict T t c) (G.bars (at T t (caller_of c)) c) false
+  -- a barred call; a preview is not barred
+  abbrev pub barred_at : T.Table → Event A → Bool
+  barred_at t (call c) = on_allowed (verdict T t c) (G.bars (at T t (caller_of c)) c) false
+  barred_at t (preview c) = false
 
-  not_barred : (t : T.Table) (c : Call A) → barred_at t c ≡ false → Pass T t c → G.bars (at T t (caller_of c)) c ≡ false
+  not_barred : (t : T.Table) (c : Call A) → barred_at t (call c) ≡ false → Pass T t c → G.bars (at T t (caller_of c)) c ≡ false
   not_barred t c m p = rw p.allowed at m
 
-  pub after_struck : (t u : T.Table) (c : Call A) → barred_at t c ≡ false → Alike T H G t u → struck T H t c ≡ true → Alike T H G (step T t c) u
-  after_struck t u c m a h = record {
+  pub after_struck : (t u : T.Table) (e : Event A) → barred_at t e ≡ false → Alike T H G t u → struck T H t e ≡ true → Alike T H G (next T t e) u
+  after_struck t u (call c) m a h = record {
     left = step_formed T O L t c a.left;
     right = a.right;
     groups = step_groups T O L t c ∙ a.groups;
@@ -111,8 +112,14 @@ module _ {A : Labels} (T : Tables A) (O : OrderLaws A) (L : TableLaws T) (H : Hi
         ∙ ap (low H (target c)) (was_target T t c) ∙ a.slots (target c)) a.slots;
     safe = step_safe T O L G W.stay t c (not_barred t c m) a.safe;
   }
+  after_struck t u (preview c) m a h = a
 
-  module _ (t u : T.Table) (c : Call A) (m : barred_at t c ≡ false) (n : barred_at u c ≡ false) (a : Alike T H G t u) (h : struck T H t c ≡ false) (g : struck T H u c ≡ false) where
+  -- a call that, if it is allowed, is not barred where its caller is a hidden program
+  abbrev Spared : T.Table → Call A → Type 0
+  Spared t c = Pass T t c → not (is_program (at T t (caller_of c)).kind) ≡ false → hides H (caller_of c) (at T t (caller_of c)) ≡ true
+      → G.bars (at T t (caller_of c)) c ≡ false
+
+  module _ (t u : T.Table) (c : Call A) (m : Spared t c) (n : Spared u c) (a : Alike T H G t u) (h : struck T H t (call c) ≡ false) (g : struck T H u (call c) ≡ false) where
     x : Slot A
     x = at T t (caller_of c)
 
@@ -130,7 +137,7 @@ module _ {A : Labels} (T : Tables A) (O : OrderLaws A) (L : TableLaws T) (H : Hi
     unfolding x y x' y'
     looks f = let p = a.slots (caller_of c) in let q = a.slots (other_of c) in λ z. f (p z) (q z)
 
-    pub verdict_alike : verdict T t c ≡ verdict T u c
+    verdict_alike : verdict T t c ≡ verdict T u c
     unfolding x y x' y'
     verdict_alike = rw (a.left, a.right)
         (sym (low_refusals H (T.groups t) x y c h) ∙ looks (λ v w. first (refusals (T.groups t) v w c)) ∙ low_refusals H (T.groups t) x' y' c g
@@ -143,9 +150,9 @@ module _ {A : Labels} (T : Tables A) (O : OrderLaws A) (L : TableLaws T) (H : Hi
     written_alike : Pass T t c → Pass T u c → low H (target c) (writes T t c) ≡ low H (target c) (writes T u c)
     unfolding x y x' y'
     written_alike p q =
-        sym (low_written H (T.groups t) x y G W c (not_barred t c m p) (a.safe (caller_of c)) (a.safe (other_of c)) h p.off)
+        sym (low_written H (T.groups t) x y G W c (m p) (a.safe (caller_of c)) (a.safe (other_of c)) h p.off)
         ∙ looks (λ v w. low H (target c) (written v w c))
-        ∙ low_written H (T.groups u) x' y' G W c (not_barred u c n q) (safe_right t u a (caller_of c)) (safe_right t u a (other_of c)) g q.off
+        ∙ low_written H (T.groups u) x' y' G W c (n q) (safe_right t u a (caller_of c)) (safe_right t u a (other_of c)) g q.off
 
     moved_alike : moved_by T t c ≡ moved_by T u c
     unfolding x y x' y'
@@ -175,15 +182,6 @@ module _ {A : Labels} (T : Tables A) (O : OrderLaws A) (L : TableLaws T) (H : Hi
         go (Ok _) (Ok _) e f q = let p = pass T t c e in let r = pass T u c f in
             rw (stored_at T O L t c p i, stored_at T O L u c r i) (new p r (eqb i (target c)) refl)
 
-    pub after_other : Alike T H G (step T t c) (step T u c)
-    after_other = record {
-      left = step_formed T O L t c a.left;
-      right = step_formed T O L u c a.right;
-      groups = step_groups T O L t c ∙ a.groups ∙ sym (step_groups T O L u c);
-      slots = step-slots;
-      safe = step_safe T O L G W.stay t c (not_barred t c m) a.safe;
-    }
-
     sec_alike : (v w : T.Table) → ((i : ℕ) → low H i (at T v i) ≡ low H i (at T w i)) → (i : ℕ) → (at T v i).sec ≡ (at T w i).sec
     sec_alike v w s i = ap (λ (e : Slot A). e.sec) (s i)
 
@@ -196,12 +194,49 @@ module _ {A : Labels} (T : Tables A) (O : OrderLaws A) (L : TableLaws T) (H : Hi
         let o = sec_alike t u a.slots (other_of c) in
         λ z. cond (f z) (need_by A (k z) (s z) (s' z) (o z)) A.empty
 
-    pub answer_alike : answer T t c ≡ answer T u c
-    answer_alike = let v = verdict_alike in let b = moved_alike in let n = need_alike in λ z. answer_of c (v z) (b z) (n z)
+    call_answer : answer T t c ≡ answer T u c
+    call_answer = let v = verdict_alike in let b = moved_alike in let n = need_alike in λ z. answer_of c (v z) (b z) (n z)
+
+  -- ---- an event on each of them
+
+  -- an event that is not struck: its call is spared, and would not be struck
+  spared : (t : T.Table) (e : Event A) → barred_at t e ≡ false → struck T H t e ≡ false → Spared t (call_of e)
+  spared t (call c) m h p q k = not_barred t c m p
+  spared t (preview c) m h p q k = go (at T t (caller_of c)).kind q (rw k at h)
+    where
+      go : (k : Kind) → not (is_program k) ≡ false → not (is_free k) && true ≡ false → G.bars (at T t (caller_of c)) c ≡ false
+      go Free q e = cc
+      go Item q e = cc
+      go Program q e = cc
+
+  call_kept : (t : T.Table) (e : Event A) → struck T H t e ≡ false → struck T H t (call (call_of e)) ≡ false
+  call_kept t (call c) h = h
+  call_kept t (preview c) h = go (at T t (caller_of c)).kind (hides H (caller_of c) (at T t (caller_of c))) h
+    where
+      go : (k : Kind) (b : Bool) → not (is_free k) && b ≡ false → b && may_differ k c ≡ false
+      go k false e = refl
+      go Free true e = refl
+      go Item true e = cc
+      go Program true e = cc
+
+  pub after_other : (t u : T.Table) (e : Event A) → barred_at t e ≡ false → barred_at u e ≡ false → Alike T H G t u → struck T H t e ≡ false → struck T H u e ≡ false
+      → Alike T H G (next T t e) (next T u e)
+  after_other t u (call c) m n a h g = record {
+    left = step_formed T O L t c a.left;
+    right = step_formed T O L u c a.right;
+    groups = step_groups T O L t c ∙ a.groups ∙ sym (step_groups T O L u c);
+    slots = step-slots t u c (spared t (call c) m h) (spared u (call c) n g) a h g;
+    safe = step_safe T O L G W.stay t c (not_barred t c m) a.safe;
+  }
+  after_other t u (preview c) m n a h g = a
+
+  pub answer_alike : (t u : T.Table) (e : Event A) → barred_at t e ≡ false → barred_at u e ≡ false → Alike T H G t u → struck T H t e ≡ false → struck T H u e ≡ false
+      → answer T t (call_of e) ≡ answer T u (call_of e)
+  answer_alike t u e m n a h g = call_answer t u (call_of e) (spared t e m h) (spared u e n g) a (call_kept t e h) (call_kept u e g)
 
   -- ---- runs
 
-  abbrev pub unwinding : Unwinding (step T)
+  abbrev pub unwinding : Unwinding (next T)
   unwinding = record {
     Alike = Alike T H G;
     struck = struck T H;
@@ -211,47 +246,41 @@ module _ {A : Labels} (T : Tables A) (O : OrderLaws A) (L : TableLaws T) (H : Hi
     after_other = after_other;
   }
 
-  -- a struck call is one by a hidden entity
-  struck-heard : (t : T.Table) (c : Call A) → struck T H t c ≡ true → hidden_at T H t (caller_of c) ≡ true
-  struck-heard t c h = go (at T t (caller_of c)).kind (hides H (caller_of c) (at T t (caller_of c))) h
+  -- a struck event is one by a hidden entity
+  struck-heard : (t : T.Table) (e : Event A) → struck T H t e ≡ true → hidden_at T H t (made_by e) ≡ true
+  struck-heard t (preview c) h = h
+  struck-heard t (call c) h = go (at T t (caller_of c)).kind (hides H (caller_of c) (at T t (caller_of c))) h
     where
       go : (k : Kind) (b : Bool) → b && may_differ k c ≡ true → not (is_free k) && b ≡ true
-      go Free b e = and_right b false e
-      go Item b e = and_left b true e
-      go Program b e = and_left b (moves_content c) e
+      go Free b q = and_right b false q
+      go Item b q = and_left b true q
+      go Program b q = and_left b (moves_content c) q
 
   pub heard_alike : Output unwinding (heard T H)
   heard_alike = record {
-    none = λ t u c m a h. rw (struck-heard t c h);
-    same = λ t u c m n a h g. let s = a.slots (caller_of c) in let r = answer_alike t u c m n a h g in
-        λ z. cond (not (is_free (s z).kind) && hides H (caller_of c) (s z)) [] (r z ∷ []);
+    none = λ t u e m a h. rw (struck-heard t e h);
+    same = λ t u e m n a h g. let s = a.slots (made_by e) in let r = answer_alike t u e m n a h g in
+        λ z. cond (not (is_free (s z).kind) && hides H (made_by e) (s z)) [] (r z ∷ []);
   }
 
-  -- the calls of programs alone are among those that may differ, and tables that look alike agree on which may
-  programs_among : (t : T.Table) (c : Call A) → struck_of_programs T H t c ≡ true → struck T H t c ≡ true
-  programs_among t c h = go (at T t (caller_of c)).kind (hides H (caller_of c) (at T t (caller_of c))) h
-    where
-      go : (k : Kind) (b : Bool) → b && (is_program k && moves_content c) ≡ true → b && may_differ k c ≡ true
-      go Free b e = e
-      go Item b e = both b true (and_left b false e) refl
-      go Program b e = e
+  -- what is of programs alone is among what may differ, and tables that look alike agree on what may
+  struck_alike : (t u : T.Table) (e : Event A) → Alike T H G t u → struck T H t e ≡ struck T H u e
+  struck_alike t u (call c) a = ap (λ (s : Slot A). struck_by H s c) (a.slots (caller_of c))
+  struck_alike t u (preview c) a = ap (λ (s : Slot A). not (is_free s.kind) && hides H (caller_of c) s) (a.slots (caller_of c))
 
-  struck_alike : (t u : T.Table) (c : Call A) → Alike T H G t u → struck T H t c ≡ struck T H u c
-  struck_alike t u c a = ap (λ (e : Slot A). struck_by H e c) (a.slots (caller_of c))
-
-  -- so lists that are the same but for the calls of programs are so but for all that may differ
-  pub programs_alone : (t u : T.Table) (cs ds : List (Call A)) → never (step T) barred_at t cs ≡ true → never (step T) barred_at u ds ≡ true → Alike T H G t u
-      → kept (step T) (struck_of_programs T H) t cs ≡ kept (step T) (struck_of_programs T H) u ds → kept (step T) (struck T H) t cs ≡ kept (step T) (struck T H) u ds
-  programs_alone = kept_alike unwinding (struck_of_programs T H) programs_among struck_alike
+  -- so lists that are the same but for the calls and previews of programs are so but for all that may differ
+  pub programs_alone : (t u : T.Table) (es fs : List (Event A)) → never (next T) barred_at t es ≡ true → never (next T) barred_at u fs ≡ true → Alike T H G t u
+      → kept (next T) (struck_of_programs T H) t es ≡ kept (next T) (struck_of_programs T H) u fs → kept (next T) (struck T H) t es ≡ kept (next T) (struck T H) u fs
+  programs_alone = kept_alike unwinding (struck_of_programs T H) (λ t e h. and_left (struck T H t e) _ h) struck_alike
 
   -- both claims of two runs but the audits, from tables that look alike
-  pub runs_alike : (t u : T.Table) (cs ds : List (Call A)) → never (step T) barred_at t cs ≡ true → never (step T) barred_at u ds ≡ true → Alike T H G t u
-      → kept (step T) (struck T H) t cs ≡ kept (step T) (struck T H) u ds → RunsAlike T H t u cs ds
-  runs_alike t u cs ds m n a k =
-      let r = runs unwinding (heard T H) heard_alike t u cs ds m n a k in
+  pub runs_alike : (t u : T.Table) (es fs : List (Event A)) → never (next T) barred_at t es ≡ true → never (next T) barred_at u fs ≡ true → Alike T H G t u
+      → kept (next T) (struck T H) t es ≡ kept (next T) (struck T H) u fs → RunsAlike T H t u es fs
+  runs_alike t u es fs m n a k =
+      let r = runs unwinding (heard T H) heard_alike t u es fs m n a k in
       record {
         tables = record {
-          slots = λ i. low_slots H i (at T (final (step T) t cs) i) (at T (final (step T) u ds) i) (r.ends.slots i);
+          slots = λ i. low_slots H i (at T (final (next T) t es) i) (at T (final (next T) u fs) i) (r.ends.slots i);
           groups = r.ends.groups;
         };
         answers = r.gives;

@@ -8,7 +8,7 @@ use Rattle.rules.specs.Table.{is_free, is_item, Tables, at}
 use Rattle.rules.specs.Calls.{Call, caller_of, other_of}
 use Rattle.rules.specs.Refusals.{Refusals, allow, ◌if◌else◌, first, number_of, verdict, step}
 use Rattle.rules.specs.Record.{answer, visible, audit}
-use Rattle.rules.specs.Runs.{final, trace, records}
+use Rattle.rules.specs.Runs.{final, trace, Event, call, preview, next, records}
 
 -- f 0, f 1 and so on, n of them, joined
 unfoldable pub joined : ℕ → (ℕ → List ℕ) → List ℕ
@@ -60,19 +60,23 @@ module _ {A : Labels} (T : Tables A) where
       (eqb n 99 || (eqb n 1 && is_free a.kind))
       || (A.below a.sec l && (eqb n 1 || (A.below (at T (step T t c) (caller_of c)).sec l && A.below (at T t (other_of c)).sec l)))
 
-  -- the records of a run that are for l, in the order of its calls, joined
-  abbrev pub records_for : A.Label → T.Table → List (Call A) → List ℕ
-  records_for l = trace (step T) (λ t c. cond (is_for l t c) (answer T t c).entry [])
+  -- the records of a run that are for l, in the order of its calls, joined; a preview has none
+  abbrev pub record_for : A.Label → T.Table → Event A → List ℕ
+  record_for l t (call c) = cond (is_for l t c) (answer T t c).entry []
+  record_for l t (preview c) = []
+
+  abbrev pub records_for : A.Label → T.Table → List (Event A) → List ℕ
+  records_for l = trace (next T) (record_for l)
 
   -- Caller i audits all records of a run with its end table u. He gets the records that are for his S there; he is refused by 99
   -- or 1, or by 13 where exactly these need more bytes than the buffer has
-  pub record RunShows (t : T.Table) (cs : List (Call A)) (u : T.Table) (i : ℕ) (buf : List ℕ) : Type 0 where
-    pub outcome : (audit T u i (records T t cs) buf).outcome ≡ first (
+  pub record RunShows (t : T.Table) (es : List (Event A)) (u : T.Table) (i : ℕ) (buf : List ℕ) : Type 0 where
+    pub outcome : (audit T u i (records T t es) buf).outcome ≡ first (
         Formless if not (T.formed u)
         else NoProgram if is_free (at T u i).kind || is_item (at T u i).kind
-        else NoRoomForRecords if ltb (length buf) (length (records_for (at T u i).sec t cs))
+        else NoRoomForRecords if ltb (length buf) (length (records_for (at T u i).sec t es))
         else allow)
-    pub part : (audit T u i (records T t cs) buf).outcome ≡ Ok tt → (audit T u i (records T t cs) buf).part ≡ records_for (at T u i).sec t cs
+    pub part : (audit T u i (records T t es) buf).outcome ≡ Ok tt → (audit T u i (records T t es) buf).part ≡ records_for (at T u i).sec t es
 
   abbrev pub RunsAudited : Type 0
-  RunsAudited = (t : T.Table) (cs : List (Call A)) (i : ℕ) (buf : List ℕ) → RunShows t cs (final (step T) t cs) i buf
+  RunsAudited = (t : T.Table) (es : List (Event A)) (i : ℕ) (buf : List ℕ) → RunShows t es (final (next T) t es) i buf

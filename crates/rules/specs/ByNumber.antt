@@ -1,6 +1,6 @@
 -- Document 01, 'When a call is turned down', read by number: the condition of each refusal over all calls, in that list's
 -- order and words. The cascades in Refusals say the same call by call. And what else goes by a number: the kinds of the calls
--- that move content and of those that may differ between two runs, the numbers that are listed at all, the need under 1 and 99, the bytes of a record.
+-- that move content and what may differ between two runs, the numbers that are listed at all, the need under 1 and 99, the bytes of a record.
 -- Assumes nothing.
 use Rattle.std.specs.Prelude.{◌≡◌, Bool, false, cond, not, ◌&&◌, ◌||◌, List, [], ◌∷◌, ◌++◌, ℕ, zero, suc, ltb, eqb, length, get_or, drop}
 use Rattle.rules.specs.declared.Refusal.TheVariants.{NoProgram, OutOfRange, SlotFree, SlotTaken, TooLong, NoRoom, FlowForbidden, NotReleasable, OtherIsItem, NoRight, BreaksGroup, Formless}
@@ -10,7 +10,7 @@ use Rattle.rules.specs.Table.{is_free, is_item, is_program, Rights, Slot, Tables
 use Rattle.rules.specs.Calls.{Call, send, fetch, with_rights, fields_of, kind_of, caller_of, other_of, add_right, drop_right, right_at, moved, moves_content, is_show, lent, written}
 use Rattle.rules.specs.Refusals.{Refusals, allow, ◌if◌else◌, first, number_of, refusals, verdict}
 use Rattle.rules.specs.Record.{need_of, moved_by, answer}
-use Rattle.rules.specs.Runs.{Hidden, hides, struck, struck_of_programs}
+use Rattle.rules.specs.Runs.{Hidden, hides, call, preview, struck, struck_of_programs}
 use Rattle.rules.specs.Claims.{listed, audit_listed}
 
 -- one of these kinds of call: 1 put, 2 show, 3 send, 4 fetch, 5 add, 6 drop, 7 create, 8 release, 9 hand
@@ -78,13 +78,17 @@ pub record ByKind {A : Labels} (c : Call A) : Type 0 where
 abbrev pub KindsMove : Labels → Type 0
 KindsMove A = (c : Call A) → ByKind c
 
--- The calls that may differ between two runs: of a hidden program those of the kinds 1 to 4, and of a hidden item all; the second
--- has the former alone
+-- What may differ between two runs: of a hidden program calls of the kinds 1 to 4, of a hidden item all calls, and of both all
+-- previews, whatever the kind; or of these what is a program's alone
 pub record StruckByKind {A : Labels} (T : Tables A) (H : Hidden A) (t : T.Table) (c : Call A) : Type 0 where
-  pub all : struck T H t c ≡ (hides H (caller_of c) (at T t (caller_of c))
+  pub calls : struck T H t (call c) ≡ (hides H (caller_of c) (at T t (caller_of c))
       && (is_item (at T t (caller_of c)).kind || (is_program (at T t (caller_of c)).kind && among (1 ∷ 2 ∷ 3 ∷ 4 ∷ []) (kind_of c))))
-  pub of_programs : struck_of_programs T H t c ≡ (hides H (caller_of c) (at T t (caller_of c))
+  pub previews : struck T H t (preview c) ≡ (hides H (caller_of c) (at T t (caller_of c))
+      && (is_item (at T t (caller_of c)).kind || is_program (at T t (caller_of c)).kind))
+  pub calls_of_programs : struck_of_programs T H t (call c) ≡ (hides H (caller_of c) (at T t (caller_of c))
       && (is_program (at T t (caller_of c)).kind && among (1 ∷ 2 ∷ 3 ∷ 4 ∷ []) (kind_of c)))
+  pub previews_of_programs : struck_of_programs T H t (preview c) ≡ (hides H (caller_of c) (at T t (caller_of c))
+      && is_program (at T t (caller_of c)).kind)
 
 abbrev pub StruckByNumber : {A : Labels} → Tables A → Type 0
 StruckByNumber {A} T = (H : Hidden A) (t : T.Table) (c : Call A) → StruckByKind T H t c

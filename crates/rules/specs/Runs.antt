@@ -1,6 +1,6 @@
--- Document 01, 'Two runs': runs, what is hidden, the calls that may differ, and what callers hear.
+-- Document 01, 'Two runs': runs of calls and previews, what is hidden, what may differ, and what callers hear.
 -- Assumes nothing.
-use Rattle.std.specs.Prelude.{◌≡◌, Bool, true, false, cond, not, ◌&&◌, List, [], ◌∷◌, ◌++◌, ℕ}
+use Rattle.std.specs.Prelude.{◌≡◌, Bool, true, false, cond, not, ◌&&◌, List, [], ◌∷◌, ◌++◌, map, ℕ}
 use Rattle.rules.specs.declared.Kind.{Kind}
 use Rattle.rules.specs.declared.Kind.TheVariants.{Free, Item, Program}
 use Rattle.rules.specs.Labels.{Labels}
@@ -32,6 +32,46 @@ module _ {S E : Type 0} (after : S → E → S) where
   never f s [] = true
   never f s (e ∷ es) = not (f s e) && never f (after s e) es
 
+-- ---- the hub's runs: calls, and previews of calls (document 02, change 3)
+
+module _ (A : Labels) where
+  pub data Event : Type 0 where
+    call : Call A → Event
+    preview : Call A → Event
+
+module _ {A : Labels} where
+  -- the call that is made, or asked about; and who makes or asks about it
+  abbrev pub call_of : Event A → Call A
+  call_of (call c) = c
+  call_of (preview c) = c
+
+  abbrev pub made_by : Event A → ℕ
+  made_by e = caller_of (call_of e)
+
+  -- the calls of a run, its previews left out; and a run of calls alone
+  abbrev pub calls_in : List (Event A) → List (Call A)
+  calls_in [] = []
+  calls_in (call c ∷ es) = c ∷ calls_in es
+  calls_in (preview c ∷ es) = calls_in es
+
+  abbrev pub calls_alone : List (Call A) → List (Event A)
+  calls_alone = map call
+
+module _ {A : Labels} (T : Tables A) where
+  -- The table that an event leaves. A preview is answered as the call on a copy of the table would be, and leaves the table
+  abbrev pub next : T.Table → Event A → T.Table
+  next t (call c) = step T t c
+  next t (preview c) = t
+
+  -- the record that the list gains: by a preview none
+  abbrev pub recorded : T.Table → Event A → List ℕ
+  recorded t (call c) = (answer T t c).entry
+  recorded t (preview c) = []
+
+  -- the records of a run, in the order of its calls
+  abbrev pub records : T.Table → List (Event A) → List ℕ
+  records = trace next recorded
+
 -- ---- what is hidden
 
 -- by a slot's number, its S and its I
@@ -50,8 +90,8 @@ module _ {A : Labels} where
   abbrev pub hides : Hidden A → ℕ → Slot A → Bool
   hides H i e = H i e.sec e.int
 
-  -- What may differ between two runs, by the kind of a hidden caller: a put, show, send or fetch by a program, and by an item any
-  -- call (document 02, change 2), since 1 refuses each (ItemsRefused)
+  -- The calls that may differ between two runs, by the kind of a hidden caller: a put, show, send or fetch by a program, and by an
+  -- item any call (document 02, change 2), since 1 refuses each (ItemsRefused)
   abbrev pub may_differ : Kind → Call A → Bool
   may_differ Free c = false
   may_differ Item c = true
@@ -79,18 +119,15 @@ module _ {A : Labels} (T : Tables A) (H : Hidden A) where
   abbrev pub hidden_at : T.Table → ℕ → Bool
   hidden_at t i = not (is_free (at T t i).kind) && hides H i (at T t i)
 
-  -- the calls that may differ, in the table that the call gets
-  abbrev pub struck : T.Table → Call A → Bool
-  struck t c = struck_by H (at T t (caller_of c)) c
+  -- What may differ, in the table that the event gets: those calls, and every preview by a hidden caller
+  abbrev pub struck : T.Table → Event A → Bool
+  struck t (call c) = struck_by H (at T t (caller_of c)) c
+  struck t (preview c) = hidden_at t (caller_of c)
 
-  -- Demand 3 to the letter: a put, show, send or fetch by a hidden program, in the table that the call gets
-  abbrev pub struck_of_programs : T.Table → Call A → Bool
-  struck_of_programs t c = hides H (caller_of c) (at T t (caller_of c)) && (is_program (at T t (caller_of c)).kind && moves_content c)
+  -- Demand 3 to the letter: a put, show, send or fetch by a hidden program, in the table that the call gets. Or a preview by one
+  abbrev pub struck_of_programs : T.Table → Event A → Bool
+  struck_of_programs t e = struck t e && is_program (at T t (made_by e)).kind
 
-  -- the answer to a caller who is not hidden
-  abbrev pub heard : T.Table → Call A → List Answer
-  heard t c = cond (hidden_at t (caller_of c)) [] (answer T t c ∷ [])
-
--- the records of a run, in the order of its calls
-abbrev pub records : {A : Labels} (T : Tables A) → T.Table → List (Call A) → List ℕ
-records T = trace (step T) (λ t c. (answer T t c).entry)
+  -- the answer to a caller who is not hidden: to a preview that of the call
+  abbrev pub heard : T.Table → Event A → List Answer
+  heard t e = cond (hidden_at t (made_by e)) [] (answer T t (call_of e) ∷ [])

@@ -3,10 +3,8 @@
 use Rattle.std.specs.Prelude.{◌≡◌, true, List, ℕ}
 use Rattle.rules.specs.Labels.{Labels}
 use Rattle.rules.specs.Table.{Tables, at}
-use Rattle.rules.specs.Calls.{Call}
-use Rattle.rules.specs.Refusals.{step}
 use Rattle.rules.specs.Record.{Answer, answer}
-use Rattle.rules.specs.Runs.{final, trace}
+use Rattle.rules.specs.Runs.{final, trace, Event, call_of, next}
 
 module _ {A : Labels} (T U : Tables A) where
   -- Two tables in form, perhaps of different kinds, hold the same slots and groups
@@ -17,9 +15,9 @@ module _ {A : Labels} (T U : Tables A) where
     pub groups : T.groups t ≡ U.groups u
 
   -- Then every run gives the same answers from both, whatever f takes of each, and leaves tables that hold the same
-  pub record RunSame (t : T.Table) (u : U.Table) (cs : List (Call A)) : Type 1 where
-    pub answers : (X : Type 0) (f : Answer → List X) → trace (step T) (λ s c. f (answer T s c)) t cs ≡ trace (step U) (λ s c. f (answer U s c)) u cs
-    pub tables : HoldSame (final (step T) t cs) (final (step U) u cs)
+  pub record RunSame (t : T.Table) (u : U.Table) (es : List (Event A)) : Type 1 where
+    pub answers : (X : Type 0) (f : Answer → List X) → trace (next T) (λ s e. f (answer T s (call_of e))) t es ≡ trace (next U) (λ s e. f (answer U s (call_of e))) u es
+    pub tables : HoldSame (final (next T) t es) (final (next U) u es)
 
   abbrev pub AnswersBySlots : Type 1
-  AnswersBySlots = (t : T.Table) (u : U.Table) (cs : List (Call A)) → HoldSame t u → RunSame t u cs
+  AnswersBySlots = (t : T.Table) (u : U.Table) (es : List (Event A)) → HoldSame t u → RunSame t u es
