@@ -8,10 +8,10 @@ use lib.Dec.{leb, eqb}
 use lib.ListN.{length, get_or, replicate}
 use Rattle.rules.specs.Bounded.{all_below}
 use Rattle.rules.specs.Table.{Slot, Tables, Plain, plain, free, slot_formed, slot_keeps, accepted}
-use Rattle.rules.specs.Calls.{Call}
+use Rattle.rules.specs.Calls.{Call, show}
 use Rattle.rules.specs.Refusals.{number_of, verdict}
-use Rattle.rules.specs.Record.{answer, Audit, audit, records_in, shown_of}
-use Rattle.rules.specs.Runs.{final, next, records}
+use Rattle.rules.specs.Record.{Answer, answer, Audit, audit, records_in, shown_of}
+use Rattle.rules.specs.Runs.{final, gained, next, records}
 use Rattle.rules.specs.ByNumber.{passing}
 use Rattle.rules.proofs.Facts.{and_left}
 use Rattle.rules.proofs.Steps.{free_formed}
@@ -20,8 +20,8 @@ use Rattle.label.specs.Tags.{tag_of, set_of, sum_of, subset_in, equal_in, union_
 use Rattle.label.specs.Words.{words}
 use Rattle.label.proofs.Words.{words_order}
 use Rattle.cases.specs.Cases.{Small, table_of, Case, cases, given, turned_down, CasesHold, EachOccurs}
-use Rattle.cases.specs.Rounds.{Line, events, told, gained, turns, expected, round_table, round, second_table, second, probe_table, probe, asked, watched_table, Holds, RoundHolds, SecondHolds, ProbeHolds, AskedHolds, AuditsHold}
-use Rattle.cases.proofs.Sure.{sure, end, round_sure, round_told, round_audit}
+use Rattle.cases.specs.Rounds.{Line, events, told, turns, expected, round_table, round, second_table, second, probe_table, probe, previewed, watched_table, Holds, RoundHolds, SecondHolds, ProbeHolds, PreviewedHolds, BuffersHold, AuditsHold}
+use Rattle.cases.proofs.Sure.{sure, end, sure_answer, round_sure, round_told, round_records, round_audit}
 
 -- what the cases and rounds are computed with
 unfoldable pub computed : ℕ
@@ -79,9 +79,9 @@ probe_plays : turns (sure (plain words)) probe_table probe ≡ expected probe_ta
 unfolding computed
 probe_plays = refl
 
-asked_plays : turns (sure (plain words)) round_table asked ≡ expected round_table asked
+previewed_plays : turns (sure (plain words)) round_table previewed ≡ expected round_table previewed
 unfolding computed
-asked_plays = refl
+previewed_plays = refl
 
 watched_plays : turns (sure (plain words)) watched_table round ≡ expected watched_table round
 unfolding computed
@@ -90,7 +90,7 @@ watched_plays = refl
 -- a round that plays on tables taken to be in form holds
 holds : (t : Plain words) (ls : List (Line (Plain words))) → accepted (plain words) t ≡ true → turns (sure (plain words)) t ls ≡ expected t ls → Holds t ls
 holds t ls a r = let p = round_sure (plain words) (plain_laws words) t ls (and_left ((plain words).formed t) _ a) r in
-    record { accepted = a; plays = p; entries = round_told (plain words) (plain_laws words) (λ e bs. e ∷ []) t ls p; parts = round_told (plain words) (plain_laws words) (λ e bs. bs) t ls p }
+    record { accepted = a; plays = p; entries = round_told (plain words) (plain_laws words) (λ e bs. e ∷ []) t ls p; parts = round_told (plain words) (plain_laws words) (λ e bs. bs) t ls p; records = round_records (plain words) (plain_laws words) t ls p }
 
 pub round_holds : RoundHolds
 unfolding computed
@@ -104,9 +104,16 @@ pub probe_holds : ProbeHolds
 unfolding computed
 probe_holds = holds probe_table probe refl probe_plays
 
-pub asked_holds : AskedHolds
+pub previewed_holds : PreviewedHolds
 unfolding computed
-asked_holds = holds round_table asked refl asked_plays
+previewed_holds = holds round_table previewed refl previewed_plays
+
+pub buffers_hold : BuffersHold
+unfolding computed
+buffers_hold = record { longer = buffer 0 4; exact = buffer 0 2; shorter = buffer 0 1; by_an_item = buffer 2 4 }
+  where
+    buffer : (i n : ℕ) → (answer (plain words) round_table (show i (replicate n 0xee))).buffer ≡ (answer (sure (plain words)) round_table (show i (replicate n 0xee))).buffer
+    buffer i n = ap (λ (a : Answer). a.buffer) (sure_answer (plain words) (plain_laws words) round_table (show i (replicate n 0xee)) refl)
 
 -- the audit of a round that holds
 of_round : {t : Plain words} {ls : List (Line (Plain words))} → Holds t ls → (i : ℕ) (buf : List ℕ)
@@ -125,5 +132,5 @@ audits_hold = record {
   probe_without = of_round probe_holds 1 (replicate 48 0xee);
   probe_short = of_round probe_holds 0 (replicate 207 0xee);
   probe_all = ap (λ (a : Audit). a.part) (of_round probe_holds 0 (replicate 208 0xee));
-  asked_all = of_round asked_holds 1 (replicate 48 0xee);
+  previewed_all = of_round previewed_holds 1 (replicate 48 0xee);
 }

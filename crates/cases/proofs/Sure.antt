@@ -8,12 +8,12 @@ use Prim.Native.Nat.{ℕ}
 use Rattle.rules.specs.Table.{Tables}
 use Rattle.rules.specs.Calls.{Call}
 use Rattle.rules.specs.Record.{answer, audit}
-use Rattle.rules.specs.Runs.{final, trace, kept, Event, call, preview, call_of, next, recorded, records}
+use Rattle.rules.specs.Runs.{final, trace, kept, Event, call, preview, call_of, gained, next, answer_to, records}
 use Rattle.rules.specs.Laws.{TableLaws}
 use Rattle.rules.proofs.Steps.{step_formed}
 use Rattle.label.specs.Words.{words}
 use Rattle.label.proofs.Words.{words_order}
-use Rattle.cases.specs.Rounds.{Line, events, told, gained, turns, expected}
+use Rattle.cases.specs.Rounds.{Line, events, told, turns, expected}
 
 -- the same tables, each taken to be in form
 abbrev pub sure : Tables words → Tables words
@@ -35,7 +35,7 @@ module _ (T : Tables words) (L : TableLaws T) where
   sure_next t (call c) f = rw f
   sure_next t (preview c) f = refl
 
-  sure_answer : (t : T.Table) (c : Call words) → T.formed t ≡ true → answer T t c ≡ answer (sure T) t c
+  pub sure_answer : (t : T.Table) (c : Call words) → T.formed t ≡ true → answer T t c ≡ answer (sure T) t c
   sure_answer t c f = rw f
 
   next-formed : (t : T.Table) (e : Event words) → T.formed t ≡ true → T.formed (next T t e) ≡ true
@@ -64,23 +64,17 @@ module _ (T : Tables words) (L : TableLaws T) where
 
   -- what a run of a round gives is what its lines say
   pub round_told : {X : Type 0} (f : List ℕ → List ℕ → List X) (t : T.Table) (ls : List (Line T.Table)) → turns T t ls ≡ expected t ls
-      → trace (next T) (λ u e. f (answer T u (call_of e)).entry (answer T u (call_of e)).part) t (events ls) ≡ told (λ l. f l.entry l.part) ls
+      → trace (next T) (λ u e. f (answer_to T u e).entry (answer_to T u e).part) t (events ls) ≡ told (λ l. f l.entry l.part) ls
   round_told f t [] r = refl
   round_told f t (l ∷ ls) r = let p = head_is r in
-      (λ z. f (p z).entry (p z).part ++ trace (next T) (λ u e. f (answer T u (call_of e)).entry (answer T u (call_of e)).part) (p z).table (events ls))
+      (λ z. f (p z).entry (p z).part ++ trace (next T) (λ u e. f (answer_to T u e).entry (answer_to T u e).part) (p z).table (events ls))
       ∙ ap (λ xs. f l.entry l.part ++ xs) (round_told f (l.after t) ls (tail_is r))
 
   -- so are its records
-  recorded_is : (t : T.Table) (e : Event words) → recorded T t e ≡ gained e (answer T t (call_of e)).entry
-  recorded_is t (call c) = refl
-  recorded_is t (preview c) = refl
-
-  round_records : (t : T.Table) (ls : List (Line T.Table)) → turns T t ls ≡ expected t ls → records T t (events ls) ≡ told (λ l. gained l.event l.entry) ls
+  pub round_records : (t : T.Table) (ls : List (Line T.Table)) → turns T t ls ≡ expected t ls → records T t (events ls) ≡ told (λ l. gained l.event l.entry) ls
   round_records t [] r = refl
   round_records t (l ∷ ls) r = let p = head_is r in
-      ap (λ (bs : List ℕ). bs ++ records T (next T t l.event) (events ls)) (recorded_is t l.event)
-      ∙ (λ z. gained l.event (p z).entry ++ records T (p z).table (events ls))
-      ∙ ap (λ xs. gained l.event l.entry ++ xs) (round_records (l.after t) ls (tail_is r))
+      (λ z. gained l.event (p z).entry ++ records T (p z).table (events ls)) ∙ ap (λ xs. gained l.event l.entry ++ xs) (round_records (l.after t) ls (tail_is r))
 
   round_end : (t : T.Table) (ls : List (Line T.Table)) → turns T t ls ≡ expected t ls → final (next T) t (events ls) ≡ end t ls
   round_end t [] r = refl

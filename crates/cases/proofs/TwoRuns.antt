@@ -8,14 +8,14 @@ use native.Mathlib.Omega.{arith}
 use lib.Dec.{ltb, eqb}
 use Rattle.rules.specs.Table.{Slot, plain, free, at, accepted, Rights, no_rights}
 use Rattle.rules.specs.Calls.{put, fetch, add_tag, drop_tag}
-use Rattle.rules.specs.Runs.{kept, Event, preview, calls_alone, next, Hidden, bears, hidden_at, struck, struck_of_programs, SlotsAgree}
+use Rattle.rules.specs.Runs.{kept, Event, preview, run_of, next, Hidden, bears, hidden_at, struck, struck_of_programs, SlotsAgree}
 use Rattle.rules.specs.Claims.{SecretRuns}
 use Rattle.rules.proofs.Facts.{either}
 use Rattle.rules.proofs.Plain.{plain_laws}
 use Rattle.label.specs.Tags.{tag_of, empty, has_tag}
 use Rattle.label.specs.Words.{words}
 use Rattle.cases.specs.Hex.{hex}
-use Rattle.cases.specs.Rounds.{events, round_table, round, probe_table, probe, other_table, longer, without_probe, asking, asking_otherwise, TwoRunsHold}
+use Rattle.cases.specs.Rounds.{events, round_table, round, probe_table, probe, previewed, other_table, longer, without_probe, with_previews, with_others, at_the_probe, TwoRunsHold}
 use Rattle.cases.proofs.Sure.{kept_sure}
 use Rattle.cases.proofs.Cases.{computed, probe_holds}
 use Rattle.cases.proofs.Claims.{words-secrecy}
@@ -45,11 +45,11 @@ agree i = either (ltb i 32) (λ e. rw e (go (eqb i 0))) (λ e. rw e (agree_same 
     go true = record { kind = refl; sec = refl; int = refl; rights = refl; content = λ h. absurd (false≢true (sym h)) }
     go false = agree_same i rest
 
-round-kept : kept (next (plain words)) (struck (plain words) (bears words 0)) round_table (events round) ≡ calls_alone (fetch 1 0 ∷ add_tag 1 0 0 ∷ drop_tag 1 0 0 ∷ [])
+round-kept : kept (next (plain words)) (struck (plain words) (bears words 0)) round_table (events round) ≡ run_of (fetch 1 0 ∷ add_tag 1 0 0 ∷ drop_tag 1 0 0 ∷ [])
 unfolding computed
 round-kept = kept_sure (plain words) (plain_laws words) (struck (plain words) (bears words 0)) round_table (events round) refl
 
-other-kept : kept (next (plain words)) (struck (plain words) (bears words 0)) other_table longer ≡ calls_alone (fetch 1 0 ∷ add_tag 1 0 0 ∷ drop_tag 1 0 0 ∷ [])
+other-kept : kept (next (plain words)) (struck (plain words) (bears words 0)) other_table longer ≡ run_of (fetch 1 0 ∷ add_tag 1 0 0 ∷ drop_tag 1 0 0 ∷ [])
 unfolding computed
 other-kept = kept_sure (plain words) (plain_laws words) (struck (plain words) (bears words 0)) other_table longer refl
 
@@ -96,15 +96,15 @@ probe-premise = record {
   events = items-kept ∙ sym without-kept;
 }
 
-asking-kept : kept (next (plain words)) (struck (plain words) (bears words 0)) round_table asking
-    ≡ preview (fetch 1 0) ∷ preview (put 2 (hex "44")) ∷ calls_alone (fetch 1 0 ∷ add_tag 1 0 0 ∷ drop_tag 1 0 0 ∷ [])
+previews-kept : kept (next (plain words)) (struck (plain words) (bears words 0)) round_table with_previews
+    ≡ preview (fetch 1 0) ∷ preview (put 2 (hex "44")) ∷ run_of (fetch 1 0 ∷ add_tag 1 0 0 ∷ drop_tag 1 0 0 ∷ [])
 unfolding computed
-asking-kept = kept_sure (plain words) (plain_laws words) (struck (plain words) (bears words 0)) round_table asking refl
+previews-kept = kept_sure (plain words) (plain_laws words) (struck (plain words) (bears words 0)) round_table with_previews refl
 
-otherwise-kept : kept (next (plain words)) (struck (plain words) (bears words 0)) other_table asking_otherwise
-    ≡ preview (fetch 1 0) ∷ preview (put 2 (hex "44")) ∷ calls_alone (fetch 1 0 ∷ add_tag 1 0 0 ∷ drop_tag 1 0 0 ∷ [])
+others-kept : kept (next (plain words)) (struck (plain words) (bears words 0)) other_table with_others
+    ≡ preview (fetch 1 0) ∷ preview (put 2 (hex "44")) ∷ run_of (fetch 1 0 ∷ add_tag 1 0 0 ∷ drop_tag 1 0 0 ∷ [])
 unfolding computed
-otherwise-kept = kept_sure (plain words) (plain_laws words) (struck (plain words) (bears words 0)) other_table asking_otherwise refl
+others-kept = kept_sure (plain words) (plain_laws words) (struck (plain words) (bears words 0)) other_table with_others refl
 
 -- the premise on the watering round's table and the other one
 starts_differ : (es fs : List (Event words))
@@ -112,18 +112,25 @@ starts_differ : (es fs : List (Event words))
     → SecretRuns (plain words) (struck (plain words) (bears words 0)) 0 round_table other_table es fs
 starts_differ es fs k = record { left = round-accepted; right = other-accepted; undroppable = λ i p. undroppable i; tables = record { slots = agree; groups = refl }; events = k }
 
+previews-premise : SecretRuns (plain words) (struck (plain words) (bears words 0)) 0 round_table other_table with_previews with_others
+previews-premise = starts_differ with_previews with_others (previews-kept ∙ sym others-kept)
+
 pub two_runs_hold : TwoRunsHold
 unfolding computed
 two_runs_hold = record {
   of_programs = round-kept;
   of_items = items-kept;
-  of_previews = asking-kept;
+  of_previews = previews-kept;
+  once_it_bears = kept_sure (plain words) (plain_laws words) (struck (plain words) (bears words 0)) round_table (events previewed) refl;
+  by_the_probe = kept_sure (plain words) (plain_laws words) (struck (plain words) (bears words 9)) probe_table at_the_probe refl;
+  by_its_grower = kept_sure (plain words) (plain_laws words) (struck_of_programs (plain words) (bears words 9)) probe_table at_the_probe refl;
   programs_alone = kept_sure (plain words) (plain_laws words) (struck_of_programs (plain words) (bears words 0)) round_table (events round) refl;
   programs_alone_at_the_probe = kept_sure (plain words) (plain_laws words) (struck_of_programs (plain words) (bears words 9)) probe_table (events probe) refl;
   hidden = hidden_are;
   answered = λ c h. rw h;
   premise = starts_differ (events round) longer (round-kept ∙ sym other-kept);
-  premise_of_previews = starts_differ asking asking_otherwise (asking-kept ∙ sym otherwise-kept);
+  premise_of_previews = previews-premise;
+  previews_disclose_nothing = words-secrecy 0 (omega arith) round_table other_table with_previews with_others previews-premise;
   premise_of_items = probe-premise;
   undisclosed = words-secrecy 9 (omega arith) probe_table probe_table (events probe) without_probe probe-premise;
 }

@@ -10,7 +10,7 @@ use Rattle.rules.specs.declared.Refusal.TheVariants.{NoProgram, NoRoomForRecords
 use Rattle.rules.specs.Table.{Slot, Tables, Plain, plain, free, accepted}
 use Rattle.rules.specs.Calls.{Call, put, show, send, fetch, add_tag, drop_tag, create, release, hand, caller_of}
 use Rattle.rules.specs.Record.{answer, Audit, audit}
-use Rattle.rules.specs.Runs.{final, trace, kept, Event, call, preview, call_of, calls_alone, next, records, bears, hidden_at, struck, struck_of_programs, heard}
+use Rattle.rules.specs.Runs.{final, trace, kept, Event, call, preview, run_of, gained, next, answer_to, records, bears, hidden_at, struck, struck_of_programs, heard}
 use Rattle.rules.specs.Claims.{SecretRuns, Undisclosed}
 use Rattle.label.specs.Tags.{label_of}
 use Rattle.label.specs.Words.{words}
@@ -32,8 +32,8 @@ abbrev shows : {X : Type 0} → Call words → List ℕ → List ℕ → (X → 
 shows c e bs f = record { event = call c; entry = e; part = bs; after = f }
 
 -- a preview: whatever is answered, nothing changes
-abbrev asks : {X : Type 0} → Call words → List ℕ → List ℕ → Line X
-asks c e bs = record { event = preview c; entry = e; part = bs; after = λ t. t }
+abbrev previews : {X : Type 0} → Call words → List ℕ → List ℕ → Line X
+previews c e bs = record { event = preview c; entry = e; part = bs; after = λ t. t }
 
 abbrev pub events : {X : Type 0} → List (Line X) → List (Event words)
 events = map (λ l. l.event)
@@ -42,11 +42,6 @@ events = map (λ l. l.event)
 abbrev pub told : {X Y : Type 0} → (Line X → List Y) → List (Line X) → List Y
 told f [] = []
 told f (l ∷ ls) = f l ++ told f ls
-
--- the record of a line that the list of records gains
-abbrev pub gained : Event words → List ℕ → List ℕ
-gained (call c) e = e
-gained (preview c) e = []
 
 -- what a call or a preview gives: its record, its part and the table
 pub record Turn (X : Type 0) : Type 0 where
@@ -57,7 +52,7 @@ pub record Turn (X : Type 0) : Type 0 where
 -- by the rules, each on the table that the one before it left, and by the lines
 abbrev pub turns : (T : Tables words) → T.Table → List (Line T.Table) → List (Turn T.Table)
 turns T t [] = []
-turns T t (l ∷ ls) = record { entry = (answer T t (call_of l.event)).entry; part = (answer T t (call_of l.event)).part; table = next T t l.event } ∷ turns T (l.after t) ls
+turns T t (l ∷ ls) = record { entry = (answer_to T t l.event).entry; part = (answer_to T t l.event).part; table = next T t l.event } ∷ turns T (l.after t) ls
 
 abbrev pub expected : {X : Type 0} → X → List (Line X) → List (Turn X)
 expected t [] = []
@@ -184,45 +179,46 @@ probe =
     ∷ line (create 4 2 1) (hex "0704020400ff01000012000000000000") unchanged
     ∷ []
 
--- ---- previews (document 02, change 3): the watering round, each step asked about before it is made
+-- ---- the watering round with previews (document 02, change 3)
 
-abbrev pub asked : List (Line (Plain words))
-asked =
-    asks (fetch 1 0) (hex "0401000700ffff000100000000000000") []
-    -- the add would be allowed; it is not made, so the fetch would be refused as before
-    ∷ asks (add_tag 1 0 0) (hex "0501ff00000000000100000000000000") []
-    ∷ asks (fetch 1 0) (hex "0401000700ffff000100000000000000") []
+abbrev pub previewed : List (Line (Plain words))
+previewed =
+    previews (fetch 1 0) (hex "0401000700ffff000100000000000000") []
+    -- the add would be allowed; it is not made, so that the fetch would still be refused
+    ∷ previews (add_tag 1 0 0) (hex "0501ff00000000000100000000000000") []
+    ∷ previews (fetch 1 0) (hex "0401000700ffff000100000000000000") []
     ∷ line (add_tag 1 0 0) (hex "0501ff00000000000100000000000000") (now 1 (entity Program 1 0 1 0 0 0 []))
     -- the fetch would move two bytes; slot 1 still has none to show
-    ∷ asks (fetch 1 0) (hex "0401000002ffff000100000000000000") []
-    ∷ asks (show 1 (replicate 64 0)) (hex "0201ff0000ffff000100000000000000") []
+    ∷ previews (fetch 1 0) (hex "0401000002ffff000100000000000000") []
+    ∷ previews (show 1 (replicate 64 0)) (hex "0201ff0000ffff000100000000000000") []
     ∷ line (fetch 1 0) (hex "0401000002ffff000100000000000000") (now 1 (entity Program 1 0 1 0 0 0 (hex "a1b2")))
     -- a show into four bytes, and into one: 6
-    ∷ asks (show 1 (replicate 4 0xee)) (hex "0201ff0002ffff000100000000000000") (hex "a1b2")
-    ∷ asks (show 1 (replicate 1 0xee)) (hex "0201ff0600ffff000100000000000000") []
-    ∷ asks (put 1 (hex "ff")) (hex "0101ff0001ffff000100000000000000") []
-    ∷ asks (send 1 2) (hex "0301020700ffff000100000000000000") []
-    ∷ asks (drop_tag 1 0 0) (hex "0601ff0a000000000100000000000000") []
+    ∷ previews (show 1 (replicate 4 0xee)) (hex "0201ff0002ffff000100000000000000") (hex "a1b2")
+    ∷ previews (show 1 (replicate 1 0xee)) (hex "0201ff0600ffff000100000000000000") []
+    ∷ previews (put 1 (hex "ff")) (hex "0101ff0001ffff000100000000000000") []
+    ∷ previews (send 1 2) (hex "0301020700ffff000100000000000000") []
+    ∷ previews (drop_tag 1 0 0) (hex "0601ff0a000000000100000000000000") []
     -- slot 3 stays free
-    ∷ asks (create 0 3 2) (hex "0700030000ff02000100000000000000") []
-    ∷ asks (create 0 3 1) (hex "0700030000ff01000100000000000000") []
-    ∷ asks (hand 1 0 0 0) (hex "09010000000000000100000000000000") []
+    ∷ previews (create 0 3 2) (hex "0700030000ff02000100000000000000") []
+    ∷ previews (create 0 3 1) (hex "0700030000ff01000100000000000000") []
+    ∷ previews (hand 1 0 0 0) (hex "09010000000000000100000000000000") []
     -- slot 0 would be free
-    ∷ asks (release 0 0) (hex "0800000000ffff000100000000000000") []
+    ∷ previews (release 0 0) (hex "0800000000ffff000100000000000000") []
     -- by an item, and by a slot that is none: 1
-    ∷ asks (put 2 (hex "44")) (hex "0102ff0100ffff000000000000000000") []
-    ∷ asks (fetch 40 0) (hex "0428000100ffff000000000000000000") []
+    ∷ previews (put 2 (hex "44")) (hex "0102ff0100ffff000000000000000000") []
+    ∷ previews (fetch 40 0) (hex "0428000100ffff000000000000000000") []
     ∷ shows (show 1 (replicate 64 0)) (hex "0201ff0002ffff000100000000000000") (hex "a1b2") (now 1 (entity Program 1 0 1 0 0 0 (hex "a1b2")))
     ∷ []
 
--- ---- what is claimed of a round: its table is accepted, each call and preview gives what its line says, and so do the answers'
--- records and the bytes shown of the run
+-- ---- what is claimed of a round: its table is accepted, each call and preview gives what its line says, and so do the run's answers,
+-- their records and the bytes shown; the list gains the records of calls alone
 
 pub record Holds (t : Plain words) (ls : List (Line (Plain words))) : Type 0 where
   pub accepted : accepted P t ≡ true
   pub plays : turns P t ls ≡ expected t ls
-  pub entries : trace (next P) (λ u e. (answer P u (call_of e)).entry ∷ []) t (events ls) ≡ told (λ l. l.entry ∷ []) ls
-  pub parts : trace (next P) (λ u e. (answer P u (call_of e)).part) t (events ls) ≡ told (λ l. l.part) ls
+  pub entries : trace (next P) (λ u e. (answer_to P u e).entry ∷ []) t (events ls) ≡ told (λ l. l.entry ∷ []) ls
+  pub parts : trace (next P) (λ u e. (answer_to P u e).part) t (events ls) ≡ told (λ l. l.part) ls
+  pub records : records P t (events ls) ≡ told (λ l. gained l.event l.entry) ls
 
 abbrev pub RoundHolds : Type 0
 RoundHolds = Holds round_table round
@@ -233,8 +229,15 @@ SecondHolds = Holds second_table second
 abbrev pub ProbeHolds : Type 0
 ProbeHolds = Holds probe_table probe
 
-abbrev pub AskedHolds : Type 0
-AskedHolds = Holds round_table asked
+abbrev pub PreviewedHolds : Type 0
+PreviewedHolds = Holds round_table previewed
+
+-- what a buffer lent to a preview holds afterwards: where the content has room, where it has not, and of a caller that is refused
+pub record BuffersHold : Type 0 where
+  pub longer : (answer_to P round_table (preview (show 0 (replicate 4 0xee)))).buffer ≡ hex "a1b2eeee"
+  pub exact : (answer_to P round_table (preview (show 0 (replicate 2 0xee)))).buffer ≡ hex "a1b2"
+  pub shorter : (answer_to P round_table (preview (show 0 (replicate 1 0xee)))).buffer ≡ hex "ee"
+  pub by_an_item : (answer_to P round_table (preview (show 2 (replicate 4 0xee)))).buffer ≡ hex "eeeeeeee"
 
 -- ---- audits of all records of a round with its end table, by caller i
 
@@ -278,7 +281,7 @@ pub record AuditsHold : Type 0 where
   pub probe_short : audited probe_table probe 0 (replicate 207 0xee) ≡ refused NoRoomForRecords (replicate 207 0xee)
   pub probe_all : (audited probe_table probe 0 (replicate 208 0xee)).part ≡ told (λ l. l.entry) (take 13 probe)
   -- of the round with previews by slot 1: the three calls
-  pub asked_all : audited round_table asked 1 (replicate 48 0xee) ≡ record {
+  pub previewed_all : audited round_table previewed 1 (replicate 48 0xee) ≡ record {
     outcome = Ok tt;
     part = hex "0501ff000000000001000000000000000401000002ffff0001000000000000000201ff0002ffff000100000000000000";
     buffer = hex "0501ff000000000001000000000000000401000002ffff0001000000000000000201ff0002ffff000100000000000000";
@@ -295,32 +298,46 @@ longer = call (put 0 (hex "11")) ∷ call (send 0 2) ∷ events round
 
 -- the probe's round without the calls by the item that bears the tag
 abbrev pub without_probe : List (Event words)
-without_probe = calls_alone (send 3 4 ∷ fetch 7 2 ∷ send 40 2 ∷ fetch 1 2 ∷ create 4 2 1 ∷ [])
+without_probe = run_of (send 3 4 ∷ fetch 7 2 ∷ send 40 2 ∷ fetch 1 2 ∷ create 4 2 1 ∷ [])
 
--- the watering round after previews, of which those by slot 0, that bears the tag, differ: in number, kind and place
-abbrev pub asking : List (Event words)
-asking = preview (show 0 (replicate 64 0)) ∷ preview (fetch 1 0) ∷ preview (put 2 (hex "44")) ∷ preview (release 0 0) ∷ events round
+-- the watering round after previews, of which those by slot 0, that bears the tag, differ in number, kind and place; in the second run
+-- slot 0 also puts
+abbrev pub with_previews : List (Event words)
+with_previews = preview (show 0 (replicate 64 0)) ∷ preview (fetch 1 0) ∷ preview (put 2 (hex "44")) ∷ preview (release 0 0) ∷ events round
 
-abbrev pub asking_otherwise : List (Event words)
-asking_otherwise = preview (fetch 1 0) ∷ call (put 0 (hex "11")) ∷ preview (create 0 3 2) ∷ preview (put 2 (hex "44")) ∷ events round
+abbrev pub with_others : List (Event words)
+with_others = preview (fetch 1 0) ∷ call (put 0 (hex "11")) ∷ preview (create 0 3 2) ∷ preview (put 2 (hex "44")) ∷ events round
+
+-- previews by the item that bears the tag, by its grower in slot 0, and by those without it
+abbrev pub at_the_probe : List (Event words)
+at_the_probe = preview (add_tag 2 0 12) ∷ preview (put 3 (hex "44")) ∷ preview (hand 0 4 1 9) ∷ preview (fetch 7 2) ∷ preview (send 40 2) ∷ preview (fetch 1 2) ∷ []
 
 pub record TwoRunsHold : Type 0 where
   -- a put, show, send or fetch by a program bearing the tag is struck out, also a refused one
-  pub of_programs : kept (next P) (struck P (bears words 0)) round_table (events round) ≡ calls_alone (fetch 1 0 ∷ add_tag 1 0 0 ∷ drop_tag 1 0 0 ∷ [])
+  pub of_programs : kept (next P) (struck P (bears words 0)) round_table (events round) ≡ run_of (fetch 1 0 ∷ add_tag 1 0 0 ∷ drop_tag 1 0 0 ∷ [])
   -- of the probe's round, every call by the item that bears the tag, and none by another
   pub of_items : kept (next P) (struck P (bears words 9)) probe_table (events probe) ≡ without_probe
   -- every preview by slot 0, of whichever call, and none by slot 1 or the item without the tag
-  pub of_previews : kept (next P) (struck P (bears words 0)) round_table asking
-      ≡ preview (fetch 1 0) ∷ preview (put 2 (hex "44")) ∷ calls_alone (fetch 1 0 ∷ add_tag 1 0 0 ∷ drop_tag 1 0 0 ∷ [])
+  pub of_previews : kept (next P) (struck P (bears words 0)) round_table with_previews
+      ≡ preview (fetch 1 0) ∷ preview (put 2 (hex "44")) ∷ run_of (fetch 1 0 ∷ add_tag 1 0 0 ∷ drop_tag 1 0 0 ∷ [])
+  -- those by slot 1 once it bears the tag, and not before
+  pub once_it_bears : kept (next P) (struck P (bears words 0)) round_table (events previewed)
+      ≡ preview (fetch 1 0) ∷ preview (add_tag 1 0 0) ∷ preview (fetch 1 0) ∷ call (add_tag 1 0 0) ∷ preview (put 2 (hex "44")) ∷ preview (fetch 40 0) ∷ []
+  -- of previews at the probe's table, those by the item that bears the tag and by its grower
+  pub by_the_probe : kept (next P) (struck P (bears words 9)) probe_table at_the_probe
+      ≡ preview (put 3 (hex "44")) ∷ preview (fetch 7 2) ∷ preview (send 40 2) ∷ preview (fetch 1 2) ∷ []
   -- to the letter of demand 3 the same of programs, and none of items
-  pub programs_alone : kept (next P) (struck_of_programs P (bears words 0)) round_table (events round) ≡ calls_alone (fetch 1 0 ∷ add_tag 1 0 0 ∷ drop_tag 1 0 0 ∷ [])
+  pub programs_alone : kept (next P) (struck_of_programs P (bears words 0)) round_table (events round) ≡ run_of (fetch 1 0 ∷ add_tag 1 0 0 ∷ drop_tag 1 0 0 ∷ [])
+  pub by_its_grower : kept (next P) (struck_of_programs P (bears words 9)) probe_table at_the_probe
+      ≡ preview (add_tag 2 0 12) ∷ preview (put 3 (hex "44")) ∷ preview (fetch 7 2) ∷ preview (send 40 2) ∷ preview (fetch 1 2) ∷ []
   pub programs_alone_at_the_probe : kept (next P) (struck_of_programs P (bears words 9)) probe_table (events probe) ≡ events probe
   -- slot 0 bears tag 0; slot 1, the item in 2, the free slot 7 and the number 40 do not, and their calls are answered
   pub hidden : map (hidden_at P (bears words 0) round_table) (0 ∷ 1 ∷ 2 ∷ 7 ∷ 40 ∷ []) ≡ true ∷ false ∷ false ∷ false ∷ false ∷ []
   pub answered : (c : Call words) → hidden_at P (bears words 0) round_table (caller_of c) ≡ false → heard P (bears words 0) round_table (call c) ≡ answer P round_table c ∷ []
   -- the premise of demand 3 is met by two tables and two runs that differ
   pub premise : SecretRuns P (struck P (bears words 0)) 0 round_table other_table (events round) longer
-  pub premise_of_previews : SecretRuns P (struck P (bears words 0)) 0 round_table other_table asking asking_otherwise
+  pub premise_of_previews : SecretRuns P (struck P (bears words 0)) 0 round_table other_table with_previews with_others
+  pub previews_disclose_nothing : Undisclosed P 0 round_table other_table with_previews with_others
   -- and by the probe's round and the round without the probe's calls: who lacks its tag is told the same by both
   pub premise_of_items : SecretRuns P (struck P (bears words 9)) 9 probe_table probe_table (events probe) without_probe
   pub undisclosed : Undisclosed P 9 probe_table probe_table (events probe) without_probe

@@ -19,7 +19,7 @@ use Rattle.rules.proofs.Audits.{audit-by-number, runs_audited}
 use Rattle.label.proofs.Words.{words_order, words_tag}
 use Rattle.monitor.specs.declared.Table.{Table}
 use Rattle.monitor.specs.Table.{hub}
-use Rattle.monitor.specs.Calls.{reply, shown_part, shown_buffer, part_after, buffer_after, audited, audit_done}
+use Rattle.monitor.specs.Calls.{reply, shown_part, shown_buffer, buffer_after, audited, audit_done}
 use Rattle.claims.specs.AtHub.{RunsAsRules, PerformsNamed, AtHub}
 use Rattle.monitor.proofs.Form.{hub_laws}
 use Rattle.monitor.proofs.AuditLaws.{len_room, done_allowed}
@@ -33,7 +33,7 @@ outcome_done t i list buf = go (audit hub t i list buf).outcome
     go (Err r) = refl
 
 pub runs_as_rules : RunsAsRules
-unfolding reply shown_part shown_buffer part_after buffer_after audited
+unfolding reply shown_part shown_buffer buffer_after audited
 runs_as_rules = record {
   table = λ t c. refl;
   outcome = λ t c. refl;

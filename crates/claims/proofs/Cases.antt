@@ -12,6 +12,7 @@ use lib.Seq.{take-append_seam}
 use borrow.Author.Tests.{leb-true, ltb-true, ltb-false, lt-ltb, le-ltb, eqb-true, eqb-false}
 use Rattle.rules.specs.Bounded.{all_below}
 use Rattle.rules.specs.Table.{slot_formed, Plain, plain, free, slot_keeps, accepted}
+use Rattle.rules.specs.Runs.{gained}
 use Rattle.rules.specs.SameSlots.{HoldSame}
 use Rattle.rules.proofs.Facts.{and_left, and_right, both, either}
 use Rattle.rules.proofs.Bounded.{all-at, all_of}
@@ -24,7 +25,7 @@ use Rattle.entity.specs.Entity.{slot_of}
 use Rattle.block.specs.Block.{block_at}
 use Rattle.cases.specs.Cases.{table_of, Case, cases, Result, given, stated}
 use Rattle.cases.specs.Rounds.{Line, events, Holds}
-use Rattle.cases.proofs.Cases.{cases_hold, round_holds, second_holds, probe_holds, asked_holds}
+use Rattle.cases.proofs.Cases.{cases_hold, round_holds, second_holds, probe_holds, previewed_holds}
 use Rattle.monitor.specs.Table.{formed, groups_of, hub, empty_table}
 use Rattle.monitor.proofs.Form.{hub_laws}
 use Rattle.monitor.proofs.Empty.{empty-entity, empty_form}
@@ -116,9 +117,10 @@ round_too {t} {ls} h =
     let f = and_left ((plain words).formed t) _ h.accepted in
     let r = answers_by_slots words_order hub (plain words) hub_laws (plain_laws words) (table_holding t) t (events ls) (held t f) in record {
       accepted = accepted_too t f h.accepted;
-      entries = r.answers (List ℕ) (λ a. a.entry ∷ []) ∙ h.entries;
-      parts = r.answers ℕ (λ a. a.part) ∙ h.parts;
+      entries = r.answers (List ℕ) (λ e a. a.entry ∷ []) ∙ h.entries;
+      parts = r.answers ℕ (λ e a. a.part) ∙ h.parts;
+      records = r.answers ℕ (λ e a. gained e a.entry) ∙ h.records;
     }
 
 pub rounds_hold_at_hub : RoundsHoldAtHub
-rounds_hold_at_hub = record { watering = round_too round_holds; second = round_too second_holds; probe = round_too probe_holds; asked = round_too asked_holds }
+rounds_hold_at_hub = record { watering = round_too round_holds; second = round_too second_holds; probe = round_too probe_holds; previewed = round_too previewed_holds }

@@ -1,4 +1,4 @@
--- The groups, counted tag by tag: no sequence of calls breaks one.
+-- The groups, counted tag by tag: no sequence of calls and previews breaks one.
 -- Assumes nothing.
 use mathlib.Core.Path.{◌≡◌, refl, sym, ap, ap₂, ◌∙◌}
 use mathlib.Core.Bool.{Bool, true, false}

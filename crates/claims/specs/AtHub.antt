@@ -37,7 +37,7 @@ pub record RunsAsRules : Type 0 where
   pub audit_outcome : (t : Table) (i : ℕ) (list buf : List ℕ) → result_map_both (λ _. tt) (λ r. r) (audit_done t i list buf) ≡ (audit hub t i list buf).outcome
   pub audit_filled : (t : Table) (i : ℕ) (list buf : List ℕ) (n : ℕ) → audit_done t i list buf ≡ Ok n → length (audit hub t i list buf).part ≡ n
 
--- The calls that `perform` takes as values, each by the kind and the fields that its record has; and put's bytes and show's buffer
+-- The calls that `play`, `perform` and previews take as values, each by the kind and the fields that its record has; and put's bytes and show's buffer
 pub record CallsNamed (bs buf : List ℕ) : Type 0 where
   pub put : (i : ℕ) → fields_given (call_with (Put i) bs buf) ≡ fields_as 1 i 255 255 255
   pub put_bytes : (i : ℕ) (a b : Slot words) → moved a b (call_with (Put i) bs buf) ≡ bs

@@ -3,11 +3,11 @@
 use Rattle.std.specs.Prelude.{◌≡◌, true, List, [], ◌∷◌, ◌++◌, map, ℕ, zero, suc, ◌-◌, length, get_or, replicate}
 use Rattle.rules.specs.Table.{Plain, accepted}
 use Rattle.rules.specs.Record.{answer}
-use Rattle.rules.specs.Runs.{trace, call_of, next}
+use Rattle.rules.specs.Runs.{trace, gained, next, answer_to, records}
 use Rattle.label.specs.Tags.{empty}
 use Rattle.label.specs.Words.{words}
 use Rattle.cases.specs.Cases.{table_of, Case, cases, Result, stated}
-use Rattle.cases.specs.Rounds.{Line, events, told, round_table, round, second_table, second, probe_table, probe, asked}
+use Rattle.cases.specs.Rounds.{Line, events, told, round_table, round, second_table, second, probe_table, probe, previewed}
 use Rattle.monitor.specs.declared.Table.{Table}
 use Rattle.monitor.specs.Table.{hub, empty_table}
 
@@ -35,15 +35,16 @@ given_at_hub k = record {
 abbrev pub CasesHoldAtHub : Type 0
 CasesHoldAtHub = map given_at_hub cases ≡ map stated cases
 
--- A round's calls and previews on the struct give the whole records and the bytes shown that its lines say
+-- A round's calls and previews on the struct give the whole records and the bytes shown that its lines say, and the list of its calls'
 pub record PlaysAtHub (t : Plain words) (ls : List (Line (Plain words))) : Type 0 where
   pub accepted : accepted hub (table_holding t) ≡ true
-  pub entries : trace (next hub) (λ u e. (answer hub u (call_of e)).entry ∷ []) (table_holding t) (events ls) ≡ told (λ l. l.entry ∷ []) ls
-  pub parts : trace (next hub) (λ u e. (answer hub u (call_of e)).part) (table_holding t) (events ls) ≡ told (λ l. l.part) ls
+  pub entries : trace (next hub) (λ u e. (answer_to hub u e).entry ∷ []) (table_holding t) (events ls) ≡ told (λ l. l.entry ∷ []) ls
+  pub parts : trace (next hub) (λ u e. (answer_to hub u e).part) (table_holding t) (events ls) ≡ told (λ l. l.part) ls
+  pub records : records hub (table_holding t) (events ls) ≡ told (λ l. gained l.event l.entry) ls
 
 -- Document 01's watering round, the second one, the one in which items are named as callers, and the one with previews
 pub record RoundsHoldAtHub : Type 0 where
   pub watering : PlaysAtHub round_table round
   pub second : PlaysAtHub second_table second
   pub probe : PlaysAtHub probe_table probe
-  pub asked : PlaysAtHub round_table asked
+  pub previewed : PlaysAtHub round_table previewed

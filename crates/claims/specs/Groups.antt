@@ -40,7 +40,7 @@ pub record StillKept (u : Table) : Type 0 where
 abbrev pub NoGroupBroken : Type 0
 NoGroupBroken = (t : Table) (es : List (Event words)) → InForm t → GroupsKept t → StillKept (final (next hub) t es)
 
--- The array of groups and their count are the very same after any calls, from any table
+-- The array of groups and their count are the very same after any calls and previews, from any table
 pub record GroupsFixed (t u : Table) : Type 0 where
   pub groups : u.groups ≡ t.groups
   pub count : u.count ≡ t.count

@@ -3,14 +3,15 @@
 use Prim.Native.Nat.{ℕ}
 use mathlib.Core.Path.{◌≡◌, refl, sym, ap, ◌∙◌}
 use mathlib.Core.Bool.{true, false}
-use mathlib.Core.List.{List, [], ◌∷◌}
+use mathlib.Core.List.{List, [], ◌∷◌, ◌++◌}
 use Rattle.rules.specs.Numbers.{Outcome}
 use Rattle.std.specs.Prelude.{Ok, Err}
 use Rattle.rules.specs.declared.Refusal.{Refusal}
 use Rattle.rules.specs.Table.{accepted}
 use Rattle.rules.specs.Calls.{Call}
 use Rattle.rules.specs.Refusals.{number_of, on_allowed, verdict, step}
-use Rattle.rules.specs.Runs.{final, Event, call, preview, next}
+use Rattle.rules.specs.Record.{answer}
+use Rattle.rules.specs.Runs.{final, trace, Event, call, preview, call_of, gained, next, records}
 use Rattle.label.specs.Words.{words}
 use Rattle.monitor.specs.declared.Table.{Table}
 use Rattle.monitor.specs.Table.{hub}
@@ -43,6 +44,13 @@ call-runs s [] = refl
 call-runs s (call c ∷ es) = call-runs (reply_to s c).table es ∙ ap (λ (t : Table). final (next hub) t es) (call-table s c)
 call-runs s (preview c ∷ es) = call-runs s es
 
+call-records : (s : HubTable) (es : List (Event words)) → trace kept_after (λ u e. gained e (reply_to u (call_of e)).entry) s es ≡ records hub (table_of s) es
+unfolding answered reply
+call-records s [] = refl
+call-records s (call c ∷ es) = ap (λ (bs : List ℕ). (answer hub (table_of s) c).entry ++ bs)
+    (call-records (reply_to s c).table es ∙ ap (λ (t : Table). records hub t es) (call-table s c))
+call-records s (preview c ∷ es) = call-records s es
+
 by_99 : (s : HubTable) (c : Call words) → kinds_known s.slots ≡ false → verdict hub (table_of s) c ≡ Err Formless
 by_99 s c h = rw (struct_stands.unknown s h)
 
@@ -66,6 +74,7 @@ calls_as_rules = record {
   entry = λ s c. refl;
   refused = refused;
   runs = call-runs;
+  records = call-records;
   unknown = unknown-call;
   unknown_audit = unknown_audit;
   audit_number = λ s i list buf. refl;

@@ -7,7 +7,7 @@ use Rattle.rules.specs.Table.{accepted}
 use Rattle.rules.specs.Calls.{Call}
 use Rattle.rules.specs.Refusals.{number_of, verdict, step}
 use Rattle.rules.specs.Record.{answer, audit}
-use Rattle.rules.specs.Runs.{final, Event, call, preview, next}
+use Rattle.rules.specs.Runs.{final, trace, Event, call, preview, call_of, gained, next, records}
 use Rattle.label.specs.Words.{words}
 use Rattle.monitor.specs.Table.{hub}
 use Rattle.layout.specs.declared.HubTable.{HubTable}
@@ -15,7 +15,7 @@ use Rattle.layout.specs.Struct.{kinds_known, table_of}
 use Rattle.load.specs.Load.{verdict_number, verdict_line, verdict_of, load_of}
 use Rattle.hubffi_c.specs.Answers.{reply_to, audit_answer, loaded_as}
 
--- the struct that firmware keeps after a call; and after a preview, which is a call whose struct it does not keep
+-- The struct that firmware keeps after a call; and after a preview, which is a call of which it keeps neither the struct nor the record
 abbrev pub kept_after : HubTable → Event words → HubTable
 kept_after s (call c) = (reply_to s c).table
 kept_after s (preview c) = s
@@ -29,6 +29,7 @@ pub record CallsAsRules : Type 0 where
   pub entry : (s : HubTable) (c : Call words) → (reply_to s c).entry ≡ (answer hub (table_of s) c).entry
   pub refused : (s : HubTable) (c : Call words) (r : Refusal) → verdict hub (table_of s) c ≡ Err r → (reply_to s c).table ≡ s
   pub runs : (s : HubTable) (es : List (Event words)) → table_of (final kept_after s es) ≡ final (next hub) (table_of s) es
+  pub records : (s : HubTable) (es : List (Event words)) → trace kept_after (λ u e. gained e (reply_to u (call_of e)).entry) s es ≡ records hub (table_of s) es
   pub unknown : (s : HubTable) (c : Call words) → kinds_known s.slots ≡ false → ((reply_to s c).table ≡ s) × ((reply_to s c).number ≡ 99)
   pub unknown_audit : (s : HubTable) (i : ℕ) (list buf : List ℕ) → kinds_known s.slots ≡ false → (audit_answer s i list buf).number ≡ 99
   pub audit_number : (s : HubTable) (i : ℕ) (list buf : List ℕ) → (audit_answer s i list buf).number ≡ number_of (audit hub (table_of s) i list buf).outcome

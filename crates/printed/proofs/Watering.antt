@@ -10,7 +10,7 @@ use lib.ListN.{replicate}
 use borrow.Author.Tests.{ltb-true, eqb-true}
 use Rattle.rules.specs.Table.{Slot, free, plain, slot_formed}
 use Rattle.rules.specs.Refusals.{step}
-use Rattle.rules.specs.Runs.{trace, call_of as called, calls_in}
+use Rattle.rules.specs.Runs.{trace, calls_in, run_of, answer_to}
 use Rattle.rules.specs.SameSlots.{HoldSame}
 use Rattle.rules.proofs.Facts.{and_left, either}
 use Rattle.rules.proofs.Plain.{plain_laws}
@@ -140,8 +140,8 @@ held = record {
 
 lines : trace (step hub) answer_line t3 (calls_in (events round)) ≡ told (λ l. call_line l.entry l.part) round
 lines =
-    sym (alone_gives hub (λ u e. answer_line u (called e)) t3 (calls_in (events round)))
-    ∙ (answers_by_slots words_order hub (plain words) hub_laws (plain_laws words) t3 round_table (events round) held).answers ℕ (λ a. call_line a.entry a.part)
+    sym (alone_gives hub (λ u e. call_line (answer_to hub u e).entry (answer_to hub u e).part) t3 (calls_in (events round)))
+    ∙ (answers_by_slots words_order hub (plain words) hub_laws (plain_laws words) t3 round_table (events round) held).answers ℕ (λ e a. call_line a.entry a.part)
     ∙ round_told (plain words) (plain_laws words) (λ e bs. call_line e bs) round_table round round_holds.plays
 
 spelt : names_line ++ told (λ l. call_line l.entry l.part) round ≡ watering_prints
@@ -154,4 +154,4 @@ output =
     (ap (λ (xs : List ℕ). names_line ++ xs) ((let t = loaded in let c = calls in λ z. trace (step hub) answer_line (t z) (c z)) ∙ lines) ∙ spelt)
 
 pub watering_printed : WateringPrinted
-watering_printed = record { verdict = accepted; table = rw loaded held; calls = calls; output = output }
+watering_printed = record { verdict = accepted; table = rw loaded held; calls = ap run_of calls; output = output }

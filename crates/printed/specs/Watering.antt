@@ -3,7 +3,7 @@
 -- Assumes nothing.
 use Rattle.std.specs.Prelude.{◌≡◌, List, ◌++◌, ℕ, Ok}
 use Rattle.rules.specs.Table.{plain}
-use Rattle.rules.specs.Runs.{calls_in}
+use Rattle.rules.specs.Runs.{run_of}
 use Rattle.rules.specs.SameSlots.{HoldSame}
 use Rattle.label.specs.Words.{words}
 use Rattle.cases.specs.Rounds.{events, round_table, round}
@@ -46,5 +46,5 @@ watering_prints =
 pub record WateringPrinted : Type 0 where
   pub verdict : verdict_of watering ≡ Ok tt
   pub table : HoldSame hub (plain words) (load_of watering).table round_table
-  pub calls : calls_of watering ≡ calls_in (events round)
+  pub calls : run_of (calls_of watering) ≡ events round
   pub output : output_of watering ≡ watering_prints

@@ -14,7 +14,7 @@ use lib.ListN.{length, drop, length-take}
 use borrow.Author.Tests.{eqb-true, ltb-true, ltb-false, lt-ltb, le-ltb}
 use Rattle.rules.specs.Calls.{Call}
 use Rattle.rules.specs.Refusals.{step}
-use Rattle.rules.specs.Runs.{final, trace, recorded}
+use Rattle.rules.specs.Runs.{final, trace, gained, answer_to}
 use Rattle.rules.proofs.Previews.{alone_ends, alone_gives}
 use Rattle.rules.proofs.Facts.{either}
 use Rattle.label.specs.Words.{words}
@@ -204,7 +204,7 @@ module _ (text : List ℕ) (m : Making) (short : IsShort m) where
 pub records_run : RecordsRun
 records_run text room t e h =
     let r = calls_ran text entries (λ entry shown e h. le_of_eq e) 10922 room t e (omega (arith, text_most text e)) (omega arith) in
-    (r.bytes ∙ sym (alone_gives hub (recorded hub) t (calls_of text)), r.table ∙ sym (alone_ends hub t (calls_of text)), r.all)
+    (r.bytes ∙ sym (alone_gives hub (λ u e. gained e (answer_to hub u e).entry) t (calls_of text)), r.table ∙ sym (alone_ends hub t (calls_of text)), r.all)
 
 -- all lines are one chunk of a buffer that is large enough
 round-runs : (text : List ℕ) → verdict_of text ≡ Ok tt → round_of text ≡ trace (step hub) answer_line (load_of text).table (calls_of text)

@@ -3,7 +3,7 @@
 use Rattle.std.specs.Prelude.{◌≡◌, List, ◌++◌, ℕ, ◌-◌, ◌≤◌, ltb, length, Ok}
 use Rattle.rules.specs.Calls.{Call}
 use Rattle.rules.specs.Refusals.{step}
-use Rattle.rules.specs.Runs.{final, trace, calls_alone, next, records}
+use Rattle.rules.specs.Runs.{final, trace, run_of, next, records}
 use Rattle.label.specs.Words.{words}
 use Rattle.monitor.specs.declared.Table.{Table}
 use Rattle.monitor.specs.Table.{hub}
@@ -80,6 +80,6 @@ records_room = 174752
 -- calls alone, the table is that after it, and no line is left
 abbrev pub RecordsRun : Type 0
 RecordsRun = (text : List ℕ) (room : ℕ) (t : Table) → verdict_of text ≡ Ok tt → records_room ≤ room
-    → ((chunk (call_pieces text entries) room (first_at text, t)).0 ≡ records hub t (calls_alone (calls_of text)))
-    × ((chunk (call_pieces text entries) room (first_at text, t)).1.1 ≡ final (next hub) t (calls_alone (calls_of text)))
+    → ((chunk (call_pieces text entries) room (first_at text, t)).0 ≡ records hub t (run_of (calls_of text)))
+    × ((chunk (call_pieces text entries) room (first_at text, t)).1.1 ≡ final (next hub) t (run_of (calls_of text)))
     × (length text ≤ (chunk (call_pieces text entries) room (first_at text, t)).1.0)

@@ -8,7 +8,7 @@ use Rattle.rules.specs.Table.{Tables}
 use Rattle.rules.specs.Calls.{Call}
 use Rattle.rules.specs.Refusals.{step}
 use Rattle.rules.specs.Record.{Answer, answer}
-use Rattle.rules.specs.Runs.{final, trace, Event, call, preview, calls_alone, next}
+use Rattle.rules.specs.Runs.{final, trace, Event, call, preview, run_of, next}
 use Rattle.rules.specs.Claims.{PreviewsLeaveNothing}
 
 module _ {A : Labels} (T : Tables A) where
@@ -24,11 +24,11 @@ module _ {A : Labels} (T : Tables A) where
 
 -- a run of calls alone ends as these do, one after another, and gives what they give
 module _ {A : Labels} (T : Tables A) where
-  pub alone_ends : (t : T.Table) (cs : List (Call A)) → final (next T) t (calls_alone cs) ≡ final (step T) t cs
+  pub alone_ends : (t : T.Table) (cs : List (Call A)) → final (next T) t (run_of cs) ≡ final (step T) t cs
   alone_ends t [] = refl
   alone_ends t (c ∷ cs) = alone_ends (step T t c) cs
 
   pub alone_gives : {X : Type 0} (out : T.Table → Event A → List X) (t : T.Table) (cs : List (Call A))
-      → trace (next T) out t (calls_alone cs) ≡ trace (step T) (λ u c. out u (call c)) t cs
+      → trace (next T) out t (run_of cs) ≡ trace (step T) (λ u c. out u (call c)) t cs
   alone_gives out t [] = refl
   alone_gives {X} out t (c ∷ cs) = ap (λ (xs : List X). out t (call c) ++ xs) (alone_gives out (step T t c) cs)

@@ -82,6 +82,6 @@ module _ {A : Labels} (O : OrderLaws A) (T U : Tables A) (L : TableLaws T) (M : 
   answers_by_slots t u [] h = record { answers = λ X f. refl; tables = h }
   answers_by_slots t u (e ∷ es) h =
       let r = answers_by_slots (next T t e) (next U u e) es (same_next t u e h) in record {
-        answers = λ X f. let a = same_answer t u h (call_of e) in let rest = r.answers X f in λ z. f (a z) ++ rest z;
+        answers = λ X f. let a = same_answer t u h (call_of e) in let rest = r.answers X f in λ z. f e (a z) ++ rest z;
         tables = r.tables;
       }

@@ -300,7 +300,7 @@ module _ {A : Labels} (p : A.Tag) (G : TagLaws A p) (O : OrderLaws A) (T : Table
       r = undropped_runs (struck_of_programs T H) t u es fs s
 
   pub others_are_heard : OthersAreHeard T p
-  others_are_heard t = record { answered = λ c h. rw (lacking (at T t (caller_of c)).kind h); told = λ c h. rw (lacking (at T t (caller_of c)).kind h); auditor = λ i h. lacking (at T t i).kind h }
+  others_are_heard t = record { answered = λ c h. rw (lacking (at T t (caller_of c)).kind h); previewed = λ c h. rw (lacking (at T t (caller_of c)).kind h); auditor = λ i h. lacking (at T t i).kind h }
     where
       lacking : (k : Kind) {b : Bool} → b ≡ false → not (is_free k) && b ≡ false
       lacking Free h = refl

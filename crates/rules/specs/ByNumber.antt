@@ -79,7 +79,7 @@ abbrev pub KindsMove : Labels → Type 0
 KindsMove A = (c : Call A) → ByKind c
 
 -- What may differ between two runs: of a hidden program calls of the kinds 1 to 4, of a hidden item all calls, and of both all
--- previews, whatever the kind; or of these what is a program's alone
+-- previews, whatever the kind. The last two say the same of programs alone
 pub record StruckByKind {A : Labels} (T : Tables A) (H : Hidden A) (t : T.Table) (c : Call A) : Type 0 where
   pub calls : struck T H t (call c) ≡ (hides H (caller_of c) (at T t (caller_of c))
       && (is_item (at T t (caller_of c)).kind || (is_program (at T t (caller_of c)).kind && among (1 ∷ 2 ∷ 3 ∷ 4 ∷ []) (kind_of c))))

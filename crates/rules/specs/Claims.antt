@@ -73,16 +73,16 @@ module _ {A : Labels} (T : Tables A) where
 
   -- ---- Previews (document 02, change 3)
 
-  -- the answer to a call, as the run goes
-  abbrev pub answered : T.Table → Event A → List Answer
-  answered t (call c) = answer T t c ∷ []
-  answered t (preview c) = []
+  -- the answers to calls
+  abbrev pub call_answers : T.Table → Event A → List Answer
+  call_answers t (call c) = answer T t c ∷ []
+  call_answers t (preview c) = []
 
   -- A run with its previews left out, which is one of calls alone, ends in the same table, answers its calls alike and gives the
   -- same records
   pub record LeftOut (t : T.Table) (es : List (Event A)) : Type 0 where
     pub table : final (next T) t es ≡ final (step T) t (calls_in es)
-    pub answers : trace (next T) answered t es ≡ trace (step T) (λ u c. answer T u c ∷ []) t (calls_in es)
+    pub answers : trace (next T) call_answers t es ≡ trace (step T) (λ u c. answer T u c ∷ []) t (calls_in es)
     pub records : records T t es ≡ trace (step T) (λ u c. (answer T u c).entry) t (calls_in es)
 
   abbrev pub PreviewsLeaveNothing : Type 0
@@ -126,16 +126,16 @@ module _ {A : Labels} (T : Tables A) where
   abbrev pub ItemsRefused : Type 0
   ItemsRefused = (t : T.Table) (c : Call A) → T.formed t ≡ true → is_item (at T t (caller_of c)).kind ≡ true → verdict T t c ≡ Err NoProgram
 
-  -- Demand 3 to the letter, where the calls of programs alone may differ, and their previews. It follows from Secrecy: lists that agree
-  -- once these are struck out agree too once those of items are, since at each event that both lists keep, the two tables have the same
-  -- items with the same labels
+  -- Where the calls and previews of programs alone may differ: for calls this is demand 3 to the letter. It follows from Secrecy: lists
+  -- that agree once these are struck out agree too once those of items are, since at each event that both lists keep, the two tables
+  -- have the same items with the same labels
   abbrev pub SecrecyOfPrograms : A.Tag → Type 0
   SecrecyOfPrograms p = (t u : T.Table) (es fs : List (Event A)) → SecretRuns (struck_of_programs T (bears A p)) p t u es fs → Undisclosed p t u es fs
 
   -- Whoever lacks the tag is answered, in a preview as in the call, and may be the auditor
   pub record OthersHeard (p : A.Tag) (t : T.Table) : Type 0 where
     pub answered : (c : Call A) → A.has (at T t (caller_of c)).sec p ≡ false → heard T (bears A p) t (call c) ≡ answer T t c ∷ []
-    pub told : (c : Call A) → A.has (at T t (caller_of c)).sec p ≡ false → heard T (bears A p) t (preview c) ≡ answer T t c ∷ []
+    pub previewed : (c : Call A) → A.has (at T t (caller_of c)).sec p ≡ false → heard T (bears A p) t (preview c) ≡ answer T t c ∷ []
     pub auditor : (i : ℕ) → A.has (at T t i).sec p ≡ false → hidden_at T (bears A p) t i ≡ false
 
   abbrev pub OthersAreHeard : A.Tag → Type 0

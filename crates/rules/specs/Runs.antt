@@ -48,29 +48,33 @@ module _ {A : Labels} where
   abbrev pub made_by : Event A → ℕ
   made_by e = caller_of (call_of e)
 
-  -- the calls of a run, its previews left out; and a run of calls alone
+  -- the calls of a run, its previews left out; and the run of a list of calls
   abbrev pub calls_in : List (Event A) → List (Call A)
   calls_in [] = []
   calls_in (call c ∷ es) = c ∷ calls_in es
   calls_in (preview c ∷ es) = calls_in es
 
-  abbrev pub calls_alone : List (Call A) → List (Event A)
-  calls_alone = map call
+  abbrev pub run_of : List (Call A) → List (Event A)
+  run_of = map call
+
+  -- what the list of records gains of the record that is answered: by a preview nothing
+  abbrev pub gained : Event A → List ℕ → List ℕ
+  gained (call c) entry = entry
+  gained (preview c) entry = []
 
 module _ {A : Labels} (T : Tables A) where
-  -- The table that an event leaves. A preview is answered as the call on a copy of the table would be, and leaves the table
+  -- the next table: a preview changes none
   abbrev pub next : T.Table → Event A → T.Table
   next t (call c) = step T t c
   next t (preview c) = t
 
-  -- the record that the list gains: by a preview none
-  abbrev pub recorded : T.Table → Event A → List ℕ
-  recorded t (call c) = (answer T t c).entry
-  recorded t (preview c) = []
+  -- the answer: a preview has that of the call, as on a copy of the table
+  abbrev pub answer_to : T.Table → Event A → Answer
+  answer_to t e = answer T t (call_of e)
 
   -- the records of a run, in the order of its calls
   abbrev pub records : T.Table → List (Event A) → List ℕ
-  records = trace next recorded
+  records = trace next (λ t e. gained e (answer_to t e).entry)
 
 -- ---- what is hidden
 
@@ -124,10 +128,10 @@ module _ {A : Labels} (T : Tables A) (H : Hidden A) where
   struck t (call c) = struck_by H (at T t (caller_of c)) c
   struck t (preview c) = hidden_at t (caller_of c)
 
-  -- Demand 3 to the letter: a put, show, send or fetch by a hidden program, in the table that the call gets. Or a preview by one
+  -- Of these what is a hidden program's: demand 3 to the letter for its puts, shows, sends and fetches, and its previews
   abbrev pub struck_of_programs : T.Table → Event A → Bool
   struck_of_programs t e = struck t e && is_program (at T t (made_by e)).kind
 
-  -- the answer to a caller who is not hidden: to a preview that of the call
+  -- the answer to a caller who is not hidden
   abbrev pub heard : T.Table → Event A → List Answer
-  heard t e = cond (hidden_at t (made_by e)) [] (answer T t (call_of e) ∷ [])
+  heard t e = cond (hidden_at t (made_by e)) [] (answer_to T t e ∷ [])
