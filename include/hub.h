@@ -19,6 +19,13 @@
  * came in, so the assignment is right either way. Whoever can write the table can write around the monitor: programs
  * get their answers, and the firmware keeps the table. Compare tables field by field: a slot has bytes of padding.
  *
+ * Previews. To see what a call would answer, make it and do not keep the table that it returns:
+ *
+ *     struct hub_reply asked = hub_send(t, 1, 2);      // t stays
+ *
+ * The number, the record and what a show writes into its buffer are those of the call on t. The record of a preview does
+ * not go into the list that hub_audit takes.
+ *
  * Pointers. Each pointer stands before its length, and is valid for that many bytes. No function keeps one after it
  * returns. In hub_audit `list` and `out` do not overlap. Where the length is 0 the pointer may be NULL: a put of no
  * bytes empties the content, a show or an audit into no bytes is allowed where there is nothing to show, an audit of an

@@ -1,14 +1,8 @@
 """The claim about two runs, checked on a program that answers scripts (model/SCRIPT.md). The model's program `pairs`
-writes the two scripts of a pair, each a table, calls, a dump and audits of `run`, and which of the calls have a caller
-without the tag."""
-import re
-
-import streams
-
-SILENT = ('table', 'slot', 'bytes', 'groups')
-SLOTS, ENTITY, AREA = 32, 57, 64
-DUMP = '[0-9a-f]{%d}' % (2 * (SLOTS * (ENTITY + AREA) + 8 + 8 * 8))
-ANSWER = '[0-9]+( [0-9a-f]+| -){3} [0-9a-f]{16}'
+writes the two scripts of a pair, each a table, calls and previews, a dump and audits of `run`, and which of the calls and
+previews have a caller without the tag."""
+import scripts
+from scripts import AREA, ENTITY, SLOTS
 
 
 def read(path):
@@ -16,14 +10,18 @@ def read(path):
         return f.read()
 
 
-def fault(program, stem):
-    """Runs the pair of STEM.a.script, STEM.b.script and STEM.watch, and says what is wrong, None if nothing is."""
+def played(program, stem):
+    """What a program answers to STEM.a.script and to STEM.b.script."""
+    return [scripts.played(program, read(stem + ending)) for ending in ('.a.script', '.b.script')]
+
+
+def fault(stem, runs):
+    """What is wrong with the two runs of a pair, of which STEM.watch says what is compared; None if nothing is."""
+    if None in runs:
+        return scripts.BAD_END
     (tag,), watched_a, watched_b = [line.split()[1:] for line in read(stem + '.watch').splitlines()]
-    ran = [answers(program, stem + '.a.script'), answers(program, stem + '.b.script')]
-    if None in ran:
-        return 'a bad end, or lines are missing, too many or of another form'
-    (calls_a, dump_a, audits_a), (calls_b, dump_b, audits_b) = ran
-    if [calls_a[int(number)] for number in watched_a] != [calls_b[int(number)] for number in watched_b]:
+    (events_a, dump_a, audits_a), (events_b, dump_b, audits_b) = map(parts, runs)
+    if [events_a[int(number)] for number in watched_a] != [events_b[int(number)] for number in watched_b]:
         return 'the answers to callers without the tag differ'
     if hidden(dump_a, int(tag)) != hidden(dump_b, int(tag)):
         return 'the end tables differ'
@@ -32,20 +30,12 @@ def fault(program, stem):
     return None
 
 
-def answers(program, script):
-    """What a program answers to a script: the lines of the calls without digests, the dump, the lines of the audits
-    without digests. None if it does not end well in time, or if there is not one line of the right form for each
-    command."""
-    text = read(script)
-    commands = [line for line in text.splitlines() if line.split()[0] not in SILENT]
-    done = streams.run([program], text.encode())
-    lines = done.out.decode('latin-1').splitlines()
-    forms = [DUMP if command == 'dump' else ANSWER for command in commands]
-    if done.code != 0 or len(lines) != len(forms) or not all(map(re.fullmatch, forms, lines)):
-        return None
+def parts(run):
+    """The answers to calls and previews without digests, the dump, the answers to audits without digests."""
+    commands, answers = zip(*(both for both in run if both[1] is not None))
     at = commands.index('dump')
-    known = [line.rpartition(' ')[0] for line in lines]
-    return known[:at], lines[at], known[at + 1:]
+    told = [scripts.parted(answer)[0] for answer in answers]
+    return told[:at], answers[at], told[at + 1:]
 
 
 def hidden(dump, tag):

@@ -73,24 +73,24 @@ impl State {
                 let audited = self.table.audit(byte(caller)?, &list, &mut buffer);
                 self.answer(audited.number, "-", &buffer[..audited.len], &buffer);
             }
-            ["show", caller, room, fill] => {
-                let mut buffer = lent(room, fill)?;
-                let reply = self.table.show(byte(caller)?, &mut buffer);
-                self.called(reply, &buffer[..reply.record[4] as usize], &buffer);
+            // the very function of the call, whose table and record are not kept
+            ["preview", ref words @ ..] => {
+                let called = call(self.table, words)?;
+                self.answer_call(&called);
             }
             _ => {
-                let reply = call(self.table, &words)?;
-                self.called(reply, &[], &[]);
+                let called = call(self.table, &words)?;
+                self.table = called.reply.table;
+                self.records.extend(called.reply.record);
+                self.answer_call(&called);
             }
         }
         Some(())
     }
 
-    /// Keeps the next table and the record, and answers.
-    fn called(&mut self, reply: Reply, part: &[u8], buffer: &[u8]) {
-        self.table = reply.table;
-        self.records.extend(reply.record);
-        self.answer(reply.number, &digits(&reply.record), part, buffer);
+    fn answer_call(&mut self, called: &Called) {
+        let Called { reply, buffer, shown } = called;
+        self.answer(reply.number, &digits(&reply.record), &buffer[..*shown], buffer);
     }
 
     fn answer(&mut self, number: u8, record: &str, part: &[u8], buffer: &[u8]) {
@@ -100,10 +100,21 @@ impl State {
     }
 }
 
-/// The calls that lend no buffer.
-fn call(table: Table, words: &[&str]) -> Option<Reply> {
-    Some(match *words {
+/// What a call handed back, the buffer that a show was lent, and how many bytes it was filled with.
+struct Called {
+    reply: Reply,
+    buffer: Vec<u8>,
+    shown: usize,
+}
+
+fn call(table: Table, words: &[&str]) -> Option<Called> {
+    let mut buffer = Vec::new();
+    let reply = match *words {
         ["put", caller, data] => table.put(byte(caller)?, &bytes(data)?),
+        ["show", caller, room, fill] => {
+            buffer = lent(room, fill)?;
+            table.show(byte(caller)?, &mut buffer)
+        }
         ["send", caller, other] => table.send(byte(caller)?, byte(other)?),
         ["fetch", caller, other] => table.fetch(byte(caller)?, byte(other)?),
         ["add", caller, set, tag] => table.add(byte(caller)?, byte(set)?, byte(tag)?),
@@ -114,7 +125,9 @@ fn call(table: Table, words: &[&str]) -> Option<Reply> {
             table.hand(byte(caller)?, byte(other)?, byte(set)?, byte(tag)?)
         }
         _ => return None,
-    })
+    };
+    let shown = if words[0] == "show" { reply.record[4] as usize } else { 0 };
+    Some(Called { reply, buffer, shown })
 }
 
 // ---- fields

@@ -24,6 +24,8 @@ import tempfile
 HERE = os.path.dirname(os.path.abspath(__file__))
 PACKAGE = os.path.dirname(HERE)
 sys.path.insert(0, os.path.dirname(PACKAGE))
+import pairs
+
 SECONDS = 20
 # Modules that make or check input and hold no rule; left out for a quicker build.
 LEFT_OUT = ("pub mod generate;", "pub mod tworuns;")
@@ -75,8 +77,7 @@ def read(path):
 def fails(root, stem, kind):
     """Whether a case comes out otherwise than expected."""
     if kind == ".watch":
-        from pairs import fault
-        return fault(os.path.join(root, "script"), stem) is not None
+        return pairs.fault(stem, pairs.played(os.path.join(root, "script"), stem)) is not None
     program, expected = CASES[kind]
     try:
         done = subprocess.run([os.path.join(root, program)], input=read(stem + kind), timeout=SECONDS,

@@ -30,6 +30,11 @@ impl Hub {
         (next, Answer { number, record, part, buffer })
     }
 
+    /// What a call would answer: it runs on a copy of the table, which nobody keeps.
+    pub fn preview(&self, call: &Call) -> Answer {
+        self.call(call).1
+    }
+
     /// Runs a list of calls, each on the table that the one before handed back.
     pub fn run(&self, calls: &[Call]) -> (Hub, Vec<Answer>) {
         let mut hub = self.clone();

@@ -6,7 +6,7 @@
 //! - `hub`: the table, flow and conflict groups
 //! - `call`: the nine calls and the fields they use
 //! - `refusal`: when a call is turned down
-//! - `effect`: what an allowed call does
+//! - `effect`: what an allowed call does, and previews
 //! - `record`: the sixteen bytes and the need
 //! - `audit`: which records an auditor is shown
 //! - `text`: the loader

@@ -138,6 +138,11 @@ impl Table {
         (next, answer)
     }
 
+    /// What a call would answer, 99 included.
+    pub fn preview(&self, call: &Call) -> Answer {
+        self.call(call).1
+    }
+
     /// Runs one audit; 99 comes before all other refusals.
     pub fn audit(&self, caller: u8, list: &[u8], buffer: &[u8]) -> Audit {
         if self.lacks_form() {

@@ -1,6 +1,7 @@
-//! Scripts of raw tables, calls and audits; SCRIPT.md has the format.
+//! Scripts of raw tables, calls, previews and audits; SCRIPT.md has the format.
 
 use crate::call::Call;
+use crate::effect::Answer;
 use crate::hex;
 use crate::raw::{RawEntity, RawKind, Table, CONTENT_AREA};
 use crate::text::load;
@@ -62,12 +63,15 @@ impl State {
                 };
                 answer_line(number, &format!("line{line}"), &[], &[], table)
             }
+            ["preview", words @ ..] => {
+                let answer = table.preview(&call(words)?);
+                called_line(&answer, table)
+            }
             _ => {
                 let (next, answer) = table.call(&call(words)?);
                 *table = next;
                 records.extend(answer.record);
-                let record = hex::digits(&answer.record);
-                answer_line(answer.number, &record, &answer.part, &answer.buffer, table)
+                called_line(&answer, table)
             }
         })
     }
@@ -108,6 +112,12 @@ fn set_up(table: &mut Table, words: &[&str]) -> Option<String> {
         _ => return None,
     }
     Some(String::new())
+}
+
+/// The line for a call or a preview, and the table after it.
+fn called_line(answer: &Answer, table: &Table) -> String {
+    let record = hex::digits(&answer.record);
+    answer_line(answer.number, &record, &answer.part, &answer.buffer, table)
 }
 
 fn answer_line(number: u8, record: &str, part: &[u8], buffer: &[u8], table: &Table) -> String {

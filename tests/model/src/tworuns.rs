@@ -3,16 +3,44 @@
 use crate::call::{Call, Name};
 use crate::effect::Answer;
 use crate::generate::rng::Rng;
-use crate::generate::scenes::{call_line, table_lines};
+use crate::generate::scenes::{call_line, preview_line, table_lines};
 use crate::generate::world::{call, call_of, failing_caller, world};
 use crate::hub::{Hub, DROP_S, SLOTS};
 use crate::raw::Table;
 
-/// A starting table and a list of calls.
+/// What a run is made of: calls, and previews of calls.
+#[derive(Clone, PartialEq, Eq, Debug)]
+pub enum Event {
+    Call(Call),
+    Preview(Call),
+}
+
+impl Event {
+    /// The call that is made or previewed.
+    pub fn call(&self) -> &Call {
+        match self {
+            Event::Call(call) | Event::Preview(call) => call,
+        }
+    }
+
+    pub fn is_preview(&self) -> bool {
+        matches!(self, Event::Preview(_))
+    }
+
+    /// The next table and the answer.
+    pub fn on(&self, hub: &Hub) -> (Hub, Answer) {
+        match self {
+            Event::Call(call) => hub.call(call),
+            Event::Preview(call) => (hub.clone(), hub.preview(call)),
+        }
+    }
+}
+
+/// A starting table and a list of calls and previews.
 #[derive(Clone, Debug)]
 pub struct Run {
     pub start: Hub,
-    pub calls: Vec<Call>,
+    pub events: Vec<Event>,
 }
 
 /// Two runs and the tag that they are compared for.
@@ -25,13 +53,13 @@ pub struct Pair {
 
 /// What of a run the claim speaks of.
 struct Trace {
-    /// The calls that are left when those that may differ are struck out.
-    left: Vec<Call>,
-    /// The calls by callers without the tag, numbered from 0.
+    /// The events that are left when those that may differ are struck out.
+    left: Vec<Event>,
+    /// The events by callers without the tag, numbered from 0.
     watched: Vec<usize>,
     /// The answers to them.
     answers: Vec<Answer>,
-    /// All records in the order of the calls.
+    /// The records of all calls in their order; a preview has none in the list.
     records: Vec<u8>,
     end: Hub,
 }
@@ -43,29 +71,42 @@ fn bears(hub: &Hub, slot: u8, tag: u8) -> bool {
 /// The calls that may differ where a program bearing the tag makes them.
 const CONTENT_CALLS: [Name; 4] = [Name::Put, Name::Show, Name::Send, Name::Fetch];
 
-/// A put, show, send or fetch whose caller is a program bearing the tag, or any call whose
-/// caller is an item bearing it.
-fn may_differ(hub: &Hub, call: &Call, tag: u8) -> bool {
+/// A put, show, send or fetch whose caller is a program bearing the tag, any call whose caller
+/// is an item bearing it, or a preview of any call whose caller is either.
+fn may_differ(hub: &Hub, event: &Event, tag: u8) -> bool {
+    let call = event.call();
     let by_program = hub.program(call.caller).is_some();
-    bears(hub, call.caller, tag) && (!by_program || CONTENT_CALLS.contains(&call.name))
+    let any_call = event.is_preview() || !by_program;
+    bears(hub, call.caller, tag) && (any_call || CONTENT_CALLS.contains(&call.name))
 }
 
 fn trace(run: &Run, tag: u8) -> Trace {
     let end = run.start.clone();
     let mut trace = Trace { left: vec![], watched: vec![], answers: vec![], records: vec![], end };
-    for (index, call) in run.calls.iter().enumerate() {
-        let (next, answer) = trace.end.call(call);
-        if !may_differ(&trace.end, call, tag) {
-            trace.left.push(call.clone());
+    for (index, event) in run.events.iter().enumerate() {
+        let (next, answer) = event.on(&trace.end);
+        if !may_differ(&trace.end, event, tag) {
+            trace.left.push(event.clone());
         }
-        trace.records.extend(answer.record);
-        if !bears(&trace.end, call.caller, tag) {
+        if !event.is_preview() {
+            trace.records.extend(answer.record);
+        }
+        if !bears(&trace.end, event.call().caller, tag) {
             trace.watched.push(index);
             trace.answers.push(answer);
         }
         trace.end = next;
     }
     trace
+}
+
+/// A run ends with the table and the records of its calls alone.
+fn ends_as_its_calls(run: &Run, ran: &Trace) -> bool {
+    let made = run.events.iter().filter(|event| !event.is_preview());
+    let calls: Vec<Call> = made.map(|event| event.call().clone()).collect();
+    let (end, answers) = run.start.run(&calls);
+    let records: Vec<u8> = answers.iter().flat_map(|answer| answer.record).collect();
+    end == ran.end && records == ran.records
 }
 
 /// The tables differ only in the contents of entities bearing the tag.
@@ -104,6 +145,9 @@ pub fn check(pair: &Pair) -> Result<(), &'static str> {
         return Err("premise: the lists differ in more");
     }
 
+    if !ends_as_its_calls(a, &ran_a) || !ends_as_its_calls(b, &ran_b) {
+        return Err("the previews change a table or the records");
+    }
     if !differ_only_under(&ran_a.end, &ran_b.end, tag) {
         return Err("the end tables differ in more");
     }
@@ -137,7 +181,7 @@ fn lengths(ran_a: &Trace, ran_b: &Trace, tag: u8, auditor: u8) -> Vec<usize> {
 }
 
 /// The script of each run, and the text that says which answers are compared: the tag, and
-/// for each script its calls by callers without the tag, numbered from 0.
+/// for each script its calls and previews by callers without the tag, numbered from 0.
 pub fn scripts(pair: &Pair) -> (String, String, String) {
     let Pair { tag, a, b } = pair;
     let (ran_a, ran_b) = (trace(a, *tag), trace(b, *tag));
@@ -148,12 +192,19 @@ pub fn scripts(pair: &Pair) -> (String, String, String) {
         }
     }
     let script = |run: &Run| {
-        let calls: String = run.calls.iter().map(call_line).collect();
-        format!("{}{calls}dump\n{audits}", table_lines(&Table::of_hub(&run.start)))
+        let events: String = run.events.iter().map(event_line).collect();
+        format!("{}{events}dump\n{audits}", table_lines(&Table::of_hub(&run.start)))
     };
     let watched = |ran: &Trace| ran.watched.iter().map(|index| format!(" {index}")).collect::<String>();
     let watch = format!("tag {tag}\na{}\nb{}\n", watched(&ran_a), watched(&ran_b));
     (script(a), script(b), watch)
+}
+
+fn event_line(event: &Event) -> String {
+    match event {
+        Event::Call(call) => call_line(call),
+        Event::Preview(call) => preview_line(call),
+    }
 }
 
 /// A random pair of runs that the claim speaks of.
@@ -169,12 +220,12 @@ pub fn random_pair(rng: &mut Rng) -> Pair {
             entity.content = rng.bytes(length);
         }
     }
-    let mut a = Run { start: world.hub.clone(), calls: vec![] };
-    let mut b = Run { start: other.clone(), calls: vec![] };
+    let mut a = Run { start: world.hub.clone(), events: vec![] };
+    let mut b = Run { start: other.clone(), events: vec![] };
     let (mut now_a, mut now_b) = (world.hub, other);
     for _ in 0..rng.between(0, 25) {
-        struck_calls(rng, &mut a, &mut now_a, &world.pool, tag);
-        struck_calls(rng, &mut b, &mut now_b, &world.pool, tag);
+        struck_events(rng, &mut a, &mut now_a, &world.pool, tag);
+        struck_events(rng, &mut b, &mut now_b, &world.pool, tag);
         let length = rng.pick(&[0, 1, 5, 63, 64, 70]);
         let usual = call(rng, &now_a, &world.pool, length);
         let both = match rng.below(10) {
@@ -182,11 +233,18 @@ pub fn random_pair(rng: &mut Rng) -> Pair {
             2 => failing_call(rng, &now_a, &world.pool, length),
             _ => usual,
         };
-        push(&mut a, &mut now_a, both.clone());
-        push(&mut b, &mut now_b, both);
+        let events = match rng.below(10) {
+            0..=1 => vec![Event::Preview(both)],
+            2..=3 => vec![Event::Preview(both.clone()), Event::Call(both)],
+            _ => vec![Event::Call(both)],
+        };
+        for event in events {
+            push(&mut a, &mut now_a, event.clone());
+            push(&mut b, &mut now_b, event);
+        }
     }
-    struck_calls(rng, &mut a, &mut now_a, &world.pool, tag);
-    struck_calls(rng, &mut b, &mut now_b, &world.pool, tag);
+    struck_events(rng, &mut a, &mut now_a, &world.pool, tag);
+    struck_events(rng, &mut b, &mut now_b, &world.pool, tag);
     Pair { tag, a, b }
 }
 
@@ -220,23 +278,25 @@ fn failing_call(rng: &mut Rng, now: &Hub, pool: &[u8], buffer: usize) -> Call {
     call_of(rng, now, pool, buffer, name, caller)
 }
 
-/// Some calls of one run only, by programs and items that bear the tag at that moment.
-fn struck_calls(rng: &mut Rng, run: &mut Run, now: &mut Hub, pool: &[u8], tag: u8) {
+/// Some calls and previews of one run only, by programs and items that bear the tag at that
+/// moment.
+fn struck_events(rng: &mut Rng, run: &mut Run, now: &mut Hub, pool: &[u8], tag: u8) {
     for _ in 0..rng.pick(&[0, 0, 1, 2, 4]) {
         let bearers: Vec<u8> = (0..SLOTS as u8).filter(|slot| bears(now, *slot, tag)).collect();
         if bearers.is_empty() {
             return;
         }
         let caller = rng.pick(&bearers);
-        let by_program = now.program(caller).is_some();
-        let name = if by_program { rng.pick(&CONTENT_CALLS) } else { rng.pick(&Name::ALL) };
+        let is_preview = rng.chance(40);
+        let any_call = is_preview || now.program(caller).is_none();
+        let name = if any_call { rng.pick(&Name::ALL) } else { rng.pick(&CONTENT_CALLS) };
         let length = rng.pick(&[0, 1, 64]);
         let call = call_of(rng, now, pool, length, name, caller);
-        push(run, now, call);
+        push(run, now, if is_preview { Event::Preview(call) } else { Event::Call(call) });
     }
 }
 
-fn push(run: &mut Run, now: &mut Hub, call: Call) {
-    *now = now.call(&call).0;
-    run.calls.push(call);
+fn push(run: &mut Run, now: &mut Hub, event: Event) {
+    *now = event.on(now).0;
+    run.events.push(event);
 }

@@ -138,11 +138,15 @@ def entity_lines(slot, entity):
         yield f"bytes {64 * slot} {data}"
 
 
-def groups_line(count):
-    return f"groups {count}" + f" {1 << 20:016x}" * 8
+def groups_line(count, word=1 << 20):
+    return f"groups {count}" + f" {word:016x}" * 8
 
 
-TABLE = ["table", *itertools.chain.from_iterable(entity_lines(*entity) for entity in ENTITIES.items()), groups_line(1)]
+def table_lines(entities):
+    return ["table", *itertools.chain.from_iterable(entity_lines(*entity) for entity in entities.items())]
+
+
+TABLE = [*table_lines(ENTITIES), groups_line(1)]
 
 
 def command(name, caller, *fields):
@@ -152,9 +156,9 @@ def command(name, caller, *fields):
     return " ".join(map(str, used + more))
 
 
-def audit_lines(records, *more):
-    """Audits of `run`, which has so many records: by each auditor into a buffer that takes all, and into short ones."""
-    for caller in (*AUDITORS, *more):
+def audit_lines(records, *callers):
+    """Audits of `run`, which has so many records: by each caller into a buffer that takes all, and into short ones."""
+    for caller in callers:
         for length in (16 * records, 16 * (records // 2), 15):
             yield f"audit {caller} run {length} ee"
 
@@ -164,7 +168,7 @@ def by_caller(caller):
     lines = [command(*call) for name in FORMS for call in calls(name, [caller], [0, 1, 2, 11, 13, 6, 32])]
     lines += [f"put {caller} {'05' * length}" for length in (256, 300)]
     lines += [f"show {caller} {length} ee" for length in (0, 2, 3, 63, 70)]
-    return [*TABLE, *lines, *audit_lines(len(lines), 2, 4, caller), "dump"]
+    return [*TABLE, *lines, *audit_lines(len(lines), *AUDITORS, 2, 4, caller), "dump"]
 
 
 # Ways to lack the form, and what mends them.
@@ -190,7 +194,7 @@ def lacking():
             lines.append(command(*next(calls(name, [caller], [2]))))
         lines += ["audit 0 run 16 ee", "audit 1 run 16 ee", mended, "put 11 01", "send 13 1"]
         records += len(FORMS) + 2
-    return [*lines, *audit_lines(records, 2), "dump"]
+    return [*lines, *audit_lines(records, *AUDITORS, 2), "dump"]
 
 
 def rewritten():
@@ -200,7 +204,7 @@ def rewritten():
         lines += [f"bytes {64 * 11} 000000", slot_line(11, kind, secrecy)]
         lines += [command(*next(calls(name, [11], [3]))) for name in ("send", "fetch", "put", "hand", "add", "show")]
         records += 6
-    return [*lines, *audit_lines(records, 2, 4), "dump"]
+    return [*lines, *audit_lines(records, *AUDITORS, 2, 4), "dump"]
 
 
 def scripts():

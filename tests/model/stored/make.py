@@ -15,6 +15,7 @@ import sys
 HERE = os.path.dirname(os.path.abspath(__file__))
 sys.path.insert(0, os.path.dirname(os.path.dirname(HERE)))
 import items
+import previews
 from records import near
 
 BUILT = os.path.join(os.path.dirname(HERE), "target", "release")
@@ -81,6 +82,11 @@ def write(folder, name, content):
         file.write(content)
 
 
+def write_scripts(folder, scripts):
+    for name, lines in scripts:
+        write(folder, name + ".script", "".join(line + "\n" for line in lines).encode())
+
+
 def read(folder, name):
     with open(os.path.join(folder, name), "rb") as file:
         return file.read()
@@ -124,9 +130,14 @@ def main():
     folder = fresh("items")
     for name, text in items.texts():
         write(folder, name + ".txt", text.encode())
-    for name, lines in items.scripts():
-        write(folder, name + ".script", "".join(line + "\n" for line in lines).encode())
+    write_scripts(folder, items.scripts())
     answer(folder, items.AUDITORS)
+    folder = fresh("previews")
+    write_scripts(folder, previews.scripts())
+    answer(folder)
+    for name, numbers in previews.numbers().items():
+        told = [int(line.split()[0]) for line in read(folder, name + ".sout").splitlines()[:len(numbers)]]
+        assert told == numbers, f"previews of {name} return {told} and not {numbers}"
     folder = fresh("tally")
     for name, content in lists():
         write(folder, name + ".records", content)

@@ -13,7 +13,7 @@ use hub::hubcalls::output;
 use hub::raw::{RawKind, Table};
 use hub::tags::{from_word, to_word, Tags};
 use hub::text::load;
-use hub::tworuns::{check, random_pair, Pair, Run};
+use hub::tworuns::{check, random_pair, scripts, Event, Pair, Run};
 
 const E: &str = "slot kind sec int sa sd ia id data\n";
 const G: &str = "tags\n";
@@ -423,17 +423,30 @@ fn two_runs() {
     }
 }
 
-/// The claim for tag 5 on two lists of calls, both from this table: a program and an item that
-/// bear it in slots 0 and 1, a program and an item without it in 2 and 3, a program and an item
-/// that bear more in 4 and 5.
-fn claim(a: &[Call], b: &[Call]) -> Result<(), &'static str> {
+/// Two lists of events for tag 5, both from this table: a program and an item that bear it in
+/// slots 0 and 1, a program and an item without it in 2 and 3, a program and an item that bear
+/// more in 4 and 5.
+fn pair(a: &[Event], b: &[Event]) -> Pair {
     let mut start =
         hub_of(&[program(&[5]), item(&[5]), program(&[]), item(&[9]), program(&[5, 9]), item(&[5, 9])]);
     for slot in [0, 2, 4] {
         start.slots[slot].as_mut().unwrap().rights[ADD_S].insert(2);
     }
-    let run = |calls: &[Call]| Run { start: start.clone(), calls: calls.to_vec() };
-    check(&Pair { tag: 5, a: run(a), b: run(b) })
+    let run = |events: &[Event]| Run { start: start.clone(), events: events.to_vec() };
+    Pair { tag: 5, a: run(a), b: run(b) }
+}
+
+fn made(calls: &[Call]) -> Vec<Event> {
+    calls.iter().cloned().map(Event::Call).collect()
+}
+
+fn previewed(calls: &[Call]) -> Vec<Event> {
+    calls.iter().cloned().map(Event::Preview).collect()
+}
+
+/// The claim on two lists of calls, without previews.
+fn claim(a: &[Call], b: &[Call]) -> Result<(), &'static str> {
+    check(&pair(&made(a), &made(b)))
 }
 
 const DIFFER: Result<(), &str> = Err("premise: the lists differ in more");
@@ -484,33 +497,101 @@ fn whether_a_call_may_differ_goes_by_the_table_that_it_gets() {
 }
 
 #[test]
-fn random_pairs_name_every_kind_of_caller() {
-    const OTHERS_TAGS: &str = "on a slot with more tags";
-    let mut counts: BTreeMap<(&str, &str), usize> = BTreeMap::new();
-    for index in 0..300 {
-        let pair = random_pair(&mut Rng::for_case(12, index));
-        for run in [pair.a, pair.b] {
-            let mut hub = run.start;
-            for call in run.calls {
-                let own = hub.secrecy(call.caller);
-                let who = match hub.entity(call.caller) {
-                    None if call.caller as usize >= SLOTS => "above 31",
-                    None => "free",
-                    Some(entity) if entity.kind == Kind::Program => "program",
-                    Some(_) if own.contains(&pair.tag) => "item with the tag",
-                    Some(_) => "item without it",
-                };
-                *counts.entry((who, call.name.word())).or_default() += 1;
-                if call.other.is_some_and(|other| !hub.secrecy(other).is_subset(&own)) {
-                    *counts.entry((who, OTHERS_TAGS)).or_default() += 1;
-                }
-                hub = hub.call(&call).0;
+fn previews_by_who_bears_the_tag_may_differ() {
+    let common = made(&[Call::put(2, vec![7]), Call::fetch(2, 0)]);
+    for bearer in [0, 1, 4, 5] {
+        for other in [0, 1, 2, 3, 4, 5, 20, 31, 32, 255] {
+            let previews = previewed(&nine(bearer, other));
+            let more = [&previews[..4], &common, &previews].concat();
+            assert_eq!(check(&pair(&common, &more)), Ok(()));
+            assert_eq!(check(&pair(&previews, &more[..5])), DIFFER, "a call of 2");
+            for preview in &previews {
+                assert_eq!(check(&pair(&[], &[preview.clone()])), Ok(()));
+                assert_eq!(check(&pair(&previews[..1], &[preview.clone()])), Ok(()));
             }
         }
     }
-    for who in ["above 31", "free", "item with the tag", "item without it"] {
+}
+
+#[test]
+fn no_other_previews_may_differ() {
+    for caller in [2, 3, 20, 31, 32, 255] {
+        for other in [0, 1, 2, 5, 20, 32] {
+            for call in nine(caller, other) {
+                let (call, preview) = (made(&[call.clone()]), previewed(&[call]));
+                assert_eq!(check(&pair(&preview, &[])), DIFFER, "{call:?}");
+                assert_eq!(check(&pair(&preview, &call)), DIFFER, "the call itself: {call:?}");
+                let both = [&preview[..], &call].concat();
+                assert_eq!(check(&pair(&both, &both)), Ok(()));
+                let turned = [&call[..], &preview].concat();
+                assert_eq!(check(&pair(&both, &turned)), DIFFER, "another order: {call:?}");
+            }
+        }
+    }
+}
+
+#[test]
+fn whether_a_preview_may_differ_goes_by_the_table_that_it_gets() {
+    let preview = Event::Preview(Call::send(20, 3));
+    let create = Call::create(0, 20, 1);
+    let (created, only_asked) = (made(&[create.clone()]), previewed(&[create]));
+    let then_preview = |events: &[Event]| [events, &[preview.clone()]].concat();
+    assert_eq!(check(&pair(&created, &then_preview(&created))), Ok(()));
+    assert_eq!(check(&pair(&only_asked, &then_preview(&only_asked))), DIFFER);
+}
+
+#[test]
+fn answers_to_previews_are_watched_in_one_order_with_those_to_calls() {
+    let hidden = Event::Preview(Call::hand(0, 2, 0, 2));
+    let [first, second] = [Event::Preview(Call::send(2, 0)), Event::Call(Call::put(2, vec![1]))];
+    let third = Event::Preview(Call::show(40, vec![2]));
+    let a = [first.clone(), hidden.clone(), hidden.clone(), second.clone(), third.clone()];
+    let b = [hidden, first, second, third];
+    let (script, _, watch) = scripts(&pair(&a, &b));
+    assert_eq!(watch, "tag 5\na 0 3 4\nb 1 2 3\n");
+    let answered = "preview send 2 0\npreview hand 0 2 0 2\npreview hand 0 2 0 2\nput 2 01\n\
+        preview show 40 1 02\ndump\n";
+    assert!(script.contains(answered), "{script}");
+}
+
+#[test]
+fn random_pairs_name_every_kind_of_caller() {
+    const OTHERS_TAGS: &str = "on a slot with more tags";
+    let mut counts: BTreeMap<(bool, &str, &str), usize> = BTreeMap::new();
+    for index in 0..600 {
+        let pair = random_pair(&mut Rng::for_case(12, index));
+        for run in [pair.a, pair.b] {
+            let mut hub = run.start;
+            for event in run.events {
+                let call = event.call();
+                let own = hub.secrecy(call.caller);
+                let hidden = own.contains(&pair.tag);
+                let who = match hub.entity(call.caller) {
+                    None if call.caller as usize >= SLOTS => "above 31",
+                    None => "free",
+                    Some(Entity { kind: Kind::Program, .. }) if hidden => "program with the tag",
+                    Some(Entity { kind: Kind::Program, .. }) => "program without it",
+                    Some(_) if hidden => "item with the tag",
+                    Some(_) => "item without it",
+                };
+                let mut count =
+                    |what| *counts.entry((event.is_preview(), who, what)).or_default() += 1;
+                count(call.name.word());
+                if call.other.is_some_and(|other| !hub.secrecy(other).is_subset(&own)) {
+                    count(OTHERS_TAGS);
+                }
+                hub = event.on(&hub).0;
+            }
+        }
+    }
+    let any_call = ["above 31", "free", "item with the tag", "item without it"];
+    let previewed_too = ["program with the tag", "program without it"];
+    let made = any_call.map(|who| (false, who));
+    let previewed = any_call.into_iter().chain(previewed_too).map(|who| (true, who));
+    for (is_preview, who) in made.into_iter().chain(previewed) {
         for what in Name::ALL.map(Name::word).into_iter().chain([OTHERS_TAGS]) {
-            assert!(counts.get(&(who, what)) > Some(&10), "{what} by {who}: {counts:?}");
+            let count = counts.get(&(is_preview, who, what));
+            assert!(count > Some(&10), "{what} by {who}, previewed {is_preview}: {counts:?}");
         }
     }
 }

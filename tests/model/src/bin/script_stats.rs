@@ -1,7 +1,8 @@
 //! script_stats DIRECTORY
 //!
 //! Counts what the scripts (*.script) of a directory reach: numbers by command, what stands in
-//! the callers' slots, ways to lack the form, lengths of buffers, kinds of lists.
+//! the callers' slots, ways to lack the form, lengths of buffers, kinds of lists, and previews
+//! that their calls follow.
 
 use std::collections::BTreeMap;
 use std::{env, fs};
@@ -14,6 +15,9 @@ use hub::record::LENGTH;
 use hub::script::State;
 
 type Counts = BTreeMap<String, usize>;
+
+/// What stands before a call that is only previewed.
+const PREVIEW: &str = "preview ";
 
 fn main() {
     let directory = env::args().nth(1).expect("a directory");
@@ -31,6 +35,10 @@ fn main() {
         for line in script.lines() {
             count_line(&mut counts, &mut state, line);
         }
+        let lines: Vec<&str> = script.lines().collect();
+        let is_of_the_next = |two: &&[&str]| two[0].strip_prefix(PREVIEW) == Some(two[1]);
+        let followed = lines.windows(2).filter(is_of_the_next).count();
+        *counts.entry("previews directly before their call".to_string()).or_default() += followed;
     }
     println!("{scripts} scripts, the longest of {longest} bytes");
     for (what, count) in counts {
@@ -40,9 +48,10 @@ fn main() {
 
 fn count_line(counts: &mut Counts, state: &mut State, line: &str) {
     let mut count = |what: String| *counts.entry(what).or_default() += 1;
-    let words: Vec<&str> = line.split(' ').collect();
     let (table, run) = (state.table.clone(), state.records.clone());
     let answer = state.line(line).expect("a command");
+    let (how, made) = line.strip_prefix(PREVIEW).map_or(("", line), |call| (", previewed", call));
+    let words: Vec<&str> = made.split(' ').collect();
     let command = words[0];
     if answer.is_empty() {
         return;
@@ -50,7 +59,7 @@ fn count_line(counts: &mut Counts, state: &mut State, line: &str) {
     if command != "load" {
         for way in lacks(&table) {
             let who = if ["audit", "dump"].contains(&command) { command } else { "call" };
-            count(format!("lacks the form, {way}: {who}"));
+            count(format!("lacks the form, {way}: {who}{how}"));
         }
     }
     if command == "dump" {
@@ -59,10 +68,11 @@ fn count_line(counts: &mut Counts, state: &mut State, line: &str) {
     let answer: Vec<&str> = answer.trim_end().split(' ').collect();
     let number: u8 = answer[0].parse().expect("a number");
     count(format!("number {number:02}"));
-    count(format!("number {number:02} of {command}"));
+    count(format!("number {number:02} of {command}{how}"));
     if !["audit", "load"].contains(&command) {
         let caller = caller_words(&table, words[1].parse().expect("a slot"));
-        count(format!("number {} for {caller}", if number == 99 { "99" } else { "00 to 11" }));
+        let number = if number == 99 { "99" } else { "00 to 11" };
+        count(format!("number {number} for {caller}{how}"));
     }
     let length = |hex: &str| if hex == "-" { 0 } else { hex.len() / 2 };
     let (part, buffer) = (length(answer[2]), length(answer[3]));
@@ -74,7 +84,7 @@ fn count_line(counts: &mut Counts, state: &mut State, line: &str) {
         _ => "not used",
     };
     if command == "show" {
-        count(format!("buffer of show: {fit}"));
+        count(format!("buffer of show{how}: {fit}"));
     }
     if command == "audit" {
         let made = if words[2] == "run" { "run" } else { "made by hand" };

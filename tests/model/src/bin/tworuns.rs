@@ -14,15 +14,15 @@ fn main() {
         eprintln!("tworuns SEED COUNT");
         exit(2)
     };
-    let mut calls = 0;
+    let mut events = 0;
     for index in 0..count {
         let pair = random_pair(&mut Rng::for_case(seed, index));
-        calls += pair.a.calls.len() + pair.b.calls.len();
+        events += pair.a.events.len() + pair.b.events.len();
         if let Err(part) = check(&pair) {
             println!("counterexample at seed {seed} index {index}: {part}");
             println!("{pair:?}");
             exit(1)
         }
     }
-    println!("{count} pairs checked, {calls} calls");
+    println!("{count} pairs checked, {events} calls and previews");
 }

@@ -1,4 +1,4 @@
-//! Scripts of scenes: each gives a table and runs calls, audits or loads on it.
+//! Scripts of scenes: each gives a table and runs calls, previews, audits or loads on it.
 
 use super::damage::{catalogue, Case, Class};
 use super::draft::round_draft;
@@ -15,7 +15,8 @@ use crate::tags::to_word;
 /// A script of `count` scenes with a dump at its end.
 pub fn script(seed: u64, count: usize) -> String {
     let cases = catalogue();
-    let mut script = Script { lines: String::new(), state: State::start() };
+    let previews = Rng::for_case(seed, u64::MAX);
+    let mut script = Script { lines: String::new(), state: State::start(), previews };
     for index in 0..count {
         let rng = &mut Rng::for_case(seed, index as u64);
         let turn = seed as usize + index;
@@ -39,6 +40,8 @@ pub fn script(seed: u64, count: usize) -> String {
 struct Script {
     lines: String,
     state: State,
+    /// Draws the previews and nothing else, so that the other lines do not depend on them.
+    previews: Rng,
 }
 
 impl Script {
@@ -47,6 +50,18 @@ impl Script {
             self.state.line(line).expect("a command");
         }
         self.lines.push_str(lines);
+    }
+
+    /// A call, at times after a preview of it, or of another one that suits the hub.
+    fn call(&mut self, hub: &Hub, pool: &[u8], call: &Call) {
+        if self.previews.chance(20) {
+            let other = unbound_call(&mut self.previews, hub, pool);
+            self.push(&preview_line(&other));
+        }
+        if self.previews.chance(30) {
+            self.push(&preview_line(call));
+        }
+        self.push(&call_line(call));
     }
 
     fn hub(&self) -> Hub {
@@ -112,6 +127,11 @@ pub fn call_line(call: &Call) -> String {
     line + "\n"
 }
 
+/// The command for a preview of a call.
+pub fn preview_line(call: &Call) -> String {
+    format!("preview {}", call_line(call))
+}
+
 /// What stands in a caller's slot, for counts of what input reaches.
 pub fn caller_words(table: &Table, caller: u8) -> &'static str {
     match table.entities.get(caller as usize) {
@@ -137,9 +157,8 @@ fn table(rng: &mut Rng, entities: usize) -> (Table, Vec<u8>) {
 }
 
 /// A call with inputs that a text cannot give: buffers and puts of any length.
-fn library_call(rng: &mut Rng, script: &mut Script, pool: &[u8]) {
-    let hub = script.hub();
-    let mut call = call(rng, &hub, pool, 0);
+fn unbound_call(rng: &mut Rng, hub: &Hub, pool: &[u8]) -> Call {
+    let mut call = call(rng, hub, pool, 0);
     match call.name {
         Name::Show => {
             let length = hub.entity(call.caller).map_or(0, |entity| entity.content.len());
@@ -153,7 +172,14 @@ fn library_call(rng: &mut Rng, script: &mut Script, pool: &[u8]) {
         }
         _ => {}
     }
-    script.push(&call_line(&call));
+    call
+}
+
+/// Makes such a call.
+fn library_call(rng: &mut Rng, script: &mut Script, pool: &[u8]) {
+    let hub = script.hub();
+    let call = unbound_call(rng, &hub, pool);
+    script.call(&hub, pool, &call);
 }
 
 /// Calls on a table, and audits of their records. `breaking` puts an entity
@@ -331,7 +357,7 @@ fn lacking_form(rng: &mut Rng, script: &mut Script, turn: usize) {
                 let caller = caller(rng, &hub);
                 let length = rng.pick(&[0, 1, 64]);
                 let call = call_of(rng, &hub, &pool, length, name, caller);
-                script.push(&call_line(&call));
+                script.call(&hub, &pool, &call);
             }
         }
         for _ in 0..2 {
@@ -378,7 +404,8 @@ fn at_limits(rng: &mut Rng, script: &mut Script) {
         let length = table.entities[slot].length as usize;
         for buffer in [length.saturating_sub(1), length, length + 1] {
             let fill = rng.byte();
-            script.push(&call_line(&Call::show(slot as u8, vec![fill; buffer])));
+            let show = Call::show(slot as u8, vec![fill; buffer]);
+            script.call(&script.hub(), &[0, 63], &show);
         }
     }
     for _ in 0..rng.between(10, 20) {

@@ -1,0 +1,56 @@
+"""What a program answers to a script (model/SCRIPT.md), and whether its answers to previews agree with its other answers.
+That needs no answer of the model."""
+import re
+
+import streams
+
+SILENT = ('table', 'slot', 'bytes', 'groups')
+PREVIEW = 'preview '
+SLOTS, ENTITY, AREA = 32, 57, 64
+DUMP = '[0-9a-f]{%d}' % (2 * (SLOTS * (ENTITY + AREA) + 8 + 8 * 8))
+ANSWER = '[0-9]+ (line[0-9]+|[0-9a-f]+|-)( [0-9a-f]+| -){2} [0-9a-f]{16}'
+BAD_END = 'a bad end, or lines are missing, too many or of another form'
+
+
+def played(program, script):
+    """The commands of a script with the line that a program answers to each, None for a command that has no answer. None if
+    the program does not end well in time, or if there is not one line of the right form for each of the others."""
+    commands = [line for line in script.splitlines() if line and not line.startswith('#')]
+    is_answered = [command.split()[0] not in SILENT for command in commands]
+    forms = [DUMP if command == 'dump' else ANSWER for command, answered in zip(commands, is_answered) if answered]
+    done = streams.run([program], script.encode())
+    lines = done.out.decode('latin-1').splitlines()
+    if not done.is_right(done.out) or len(lines) != len(forms) or not all(map(re.fullmatch, forms, lines)):
+        return None
+    answers = iter(lines)
+    return [(command, next(answers) if answered else None) for command, answered in zip(commands, is_answered)]
+
+
+def parted(answer):
+    """An answer without the digest, and the digest."""
+    told, _, digest = answer.rpartition(' ')
+    return told, digest
+
+
+def fault(program, run):
+    """What is wrong with the previews of a script that a program played, None if nothing is. A preview leaves the table as
+    it is; where the call itself comes next, it is answered like the preview; and where all previews are left out, the other
+    commands are answered as before, audits of `run` among them."""
+    if run is None:
+        return BAD_END
+    table = None  # its digest, where an answer has told it
+    for (command, answer), (following, its_answer) in zip(run, [*run[1:], ('', '')]):
+        if answer is None:
+            table = None
+        elif command != 'dump':
+            told, digest = parted(answer)
+            if command.startswith(PREVIEW):
+                if table not in (None, digest):
+                    return '%s changes the table' % command
+                if following == command[len(PREVIEW):] and parted(its_answer)[0] != told:
+                    return '%s is answered otherwise than the call' % command
+            table = digest
+    others = [(command, answer) for command, answer in run if not command.startswith(PREVIEW)]
+    if played(program, ''.join(command + '\n' for command, _ in others)) != others:
+        return 'without the previews the other commands are answered otherwise'
+    return None
