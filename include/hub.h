@@ -19,9 +19,9 @@
  * came in, so the assignment is right either way. Whoever can write the table can write around the monitor: programs
  * get their answers, and the firmware keeps the table. Compare tables field by field: a slot has bytes of padding.
  *
- * Previews. To see what a call would answer, make it and do not keep the table that it returns:
+ * Previews. To see what a call would answer, make it and keep neither the table nor the record that it returns:
  *
- *     struct hub_reply asked = hub_send(t, 1, 2);      // t stays
+ *     struct hub_reply preview = hub_send(t, 1, 2);    // t stays
  *
  * The number, the record and what a show writes into its buffer are those of the call on t. The record of a preview does
  * not go into the list that hub_audit takes.
@@ -112,7 +112,7 @@ struct hub_table {
  *     bytes 8-15   the need, least byte first: the secrecy tags that an auditor must bear to be shown this record. Where
  *                  the number is 1 these are the S of the item in the caller's slot, or none if that slot is free or
  *                  above 31; where it is 99, none
- * The records of all calls in their order, refused ones too, are the list that hub_audit takes.
+ * The records of all calls in their order, refused ones too and previews left out, are the list that hub_audit takes.
  */
 struct hub_reply {
     struct hub_table table;

@@ -1,8 +1,8 @@
 //! The label monitor of a growers' hub, for Rust: what include/hub.h declares, and safe functions over it. That header
 //! says what each call does, its refusals, and what a record holds.
 //!
-//! The table goes in and comes back by value. A refused call hands back the very table that came in. A call whose table
-//! is not kept is a preview: it answers as the call would, and its record does not go into the list for an audit.
+//! The table goes in and comes back by value. A refused call hands back the very table that came in. A call of which
+//! neither the table nor the record is kept is a preview: it answers as the call would.
 
 use std::mem::size_of;
 
