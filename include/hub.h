@@ -23,8 +23,8 @@
  *
  *     struct hub_reply preview = hub_send(t, 1, 2);    // t stays
  *
- * The number, the record and what a show writes into its buffer are those of the call on t. The record of a preview does
- * not go into the list that hub_audit takes.
+ * The number, the record and what a show writes into its buffer are those of the call on t, and like them they are for the
+ * program in the caller's slot. The record of a preview does not go into the list that hub_audit takes.
  *
  * Pointers. Each pointer stands before its length, and is valid for that many bytes. No function keeps one after it
  * returns. In hub_audit `list` and `out` do not overlap. Where the length is 0 the pointer may be NULL: a put of no

@@ -8,7 +8,9 @@ SILENT = ('table', 'slot', 'bytes', 'groups')
 PREVIEW = 'preview '
 SLOTS, ENTITY, AREA = 32, 57, 64
 DUMP = '[0-9a-f]{%d}' % (2 * (SLOTS * (ENTITY + AREA) + 8 + 8 * 8))
-ANSWER = '[0-9]+ (line[0-9]+|[0-9a-f]+|-)( [0-9a-f]+| -){2} [0-9a-f]{16}'
+TOLD = {'load': 'line[0-9]+', 'audit': '-'}  # beside the number; the others tell a record
+RECORD = '[0-9a-f]{32}'
+ANSWER = '[0-9]+ (%s)( [0-9a-f]+| -){2} [0-9a-f]{16}'
 BAD_END = 'a bad end, or lines are missing, too many or of another form'
 
 
@@ -17,13 +19,18 @@ def played(program, script):
     the program does not end well in time, or if there is not one line of the right form for each of the others."""
     commands = [line for line in script.splitlines() if line and not line.startswith('#')]
     is_answered = [command.split()[0] not in SILENT for command in commands]
-    forms = [DUMP if command == 'dump' else ANSWER for command, answered in zip(commands, is_answered) if answered]
+    forms = [form(command) for command, answered in zip(commands, is_answered) if answered]
     done = streams.run([program], script.encode())
     lines = done.out.decode('latin-1').splitlines()
     if not done.is_right(done.out) or len(lines) != len(forms) or not all(map(re.fullmatch, forms, lines)):
         return None
     answers = iter(lines)
     return [(command, next(answers) if answered else None) for command, answered in zip(commands, is_answered)]
+
+
+def form(command):
+    """The form of the answer to a command."""
+    return DUMP if command == 'dump' else ANSWER % TOLD.get(command.split()[0], RECORD)
 
 
 def parted(answer):

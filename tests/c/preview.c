@@ -1,7 +1,8 @@
 /*
- * Previews: calls whose returned table is not kept. A round of calls is made twice, once with previews of all of them
- * before each call. These leave the table; that of the call has its number, its record and its buffer; and both rounds end
- * with the same table and the same records. Prints a line for each that does something else, and then fails.
+ * Previews: calls of which neither the table nor the record is kept. A round of calls is made twice, once with previews of
+ * all of them before each call. Each call has the number, the record and the buffer of its preview; and both rounds end with
+ * the same table and the same records, so that the library keeps nothing from one call to the next. Prints a line for each
+ * that does something else, and then fails.
  */
 #include <stdio.h>
 #include <string.h>
@@ -104,14 +105,12 @@ static struct round previewed(struct hub_table t, int has_form) {
     struct round round;
     size_t n, other;
     for (n = 0; n < CALLS; n++) {
-        const struct hub_table before = t;
         uint8_t room[ROOM], preview_room[ROOM];
         struct hub_reply reply, preview;
         for (other = 0; other < CALLS; other++)
             made(other, t, preview_room);
         memset(preview_room, LENT, ROOM);
         preview = made(n, t, preview_room);
-        expect(same_table(&t, &before), n, "a preview changes the table");
         memset(room, LENT, ROOM);
         reply = made(n, t, room);
         expect(reply.number == (has_form ? numbers[n] : 99), n, "returns another number");

@@ -179,7 +179,7 @@ probe =
     ∷ line (create 4 2 1) (hex "0704020400ff01000012000000000000") unchanged
     ∷ []
 
--- ---- the watering round with previews (document 02, change 3)
+-- ---- previews on the watering round's table (document 02, change 3)
 
 abbrev pub previewed : List (Line (Plain words))
 previewed =
@@ -280,7 +280,7 @@ pub record AuditsHold : Type 0 where
   -- by its grower: all but the last, 13 records, where there is room for 12 and 15 bytes
   pub probe_short : audited probe_table probe 0 (replicate 207 0xee) ≡ refused NoRoomForRecords (replicate 207 0xee)
   pub probe_all : (audited probe_table probe 0 (replicate 208 0xee)).part ≡ told (λ l. l.entry) (take 13 probe)
-  -- of the round with previews by slot 1: the three calls
+  -- of the round with previews, by slot 1: its three calls
   pub previewed_all : audited round_table previewed 1 (replicate 48 0xee) ≡ record {
     outcome = Ok tt;
     part = hex "0501ff000000000001000000000000000401000002ffff0001000000000000000201ff0002ffff000100000000000000";

@@ -35,7 +35,8 @@ given_at_hub k = record {
 abbrev pub CasesHoldAtHub : Type 0
 CasesHoldAtHub = map given_at_hub cases ≡ map stated cases
 
--- A round's calls and previews on the struct give the whole records and the bytes shown that its lines say, and the list of its calls'
+-- A round's calls and previews on the struct give the whole records and the bytes shown that its lines say, and the list has the
+-- records of its calls
 pub record PlaysAtHub (t : Plain words) (ls : List (Line (Plain words))) : Type 0 where
   pub accepted : accepted hub (table_holding t) ≡ true
   pub entries : trace (next hub) (λ u e. (answer_to hub u e).entry ∷ []) (table_holding t) (events ls) ≡ told (λ l. l.entry ∷ []) ls
