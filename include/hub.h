@@ -89,7 +89,7 @@ struct hub_slot {
  *
  * hub_empty and hub_load make tables. One that is filled by hand has the form where kinds are 0 to 2, lengths at most
  * 64, the bytes beyond a length zero, items without rights, free slots without tags, rights and content, and the count
- * at most 8; calls and audits on another are refused by 99. A loaded table also has every entity keep to every group
+ * at most 8; calls, audits and checks on another are refused by 99. A loaded table also has every entity keep to every group
  * (the union of its six sets has at most one tag in common with it), and calls keep it so; who fills a table by
  * hand sees to that.
  */
@@ -128,9 +128,9 @@ struct hub_audited {
 };
 
 /*
- * What a check of the groups hands back: 0, or 99 where the table lacks the form; whether each group is kept; and how many groups
- * were counted: where none is broken, the number of groups, and else the place of the first that is broken, from 1. So
- * that one is t.groups[counted - 1]. Under 99 `keeps` is false and `counted` is 0.
+ * What a check of the groups hands back: 0, whether each group is kept, and how many groups were counted: all of them where none
+ * is broken, else the place of the first that is, from 1. Or 99, false and 0. So look at the number first: where it is 0 and
+ * `keeps` is false, the first broken group is t.groups[counted - 1].
  */
 struct hub_checked {
     uint8_t number;
@@ -220,16 +220,17 @@ struct hub_audited hub_audit(struct hub_table t, uint8_t caller, const uint8_t *
                              uint8_t *out, size_t room);
 
 /*
- * A check of the conflict groups for who holds the tags of `held`: whether `held` has at most one tag in common with each, and
- * which is the first with which it has more. What an entity holds is all its six sets together. So this is what a hand of tag n to
- * slot k asks, behind all its other refusals, and says which group stands in the way of one that is refused by 11:
+ * A check of the conflict groups for the tags of `held`: whether it has at most one tag in common with each, and if not, the first
+ * with which it has more; behind that one others may be broken too. Of an entity, `held` is the union of its six sets. With the
+ * tag n of a hand to slot k, n at most 63 and k at most 31, it is what hub_hand asks behind all its other refusals, whichever right
+ * is handed. So it says the first group that stands in the way where hub_hand returns 11:
  *
  *     const struct hub_slot *s = &t.slots[k];
  *     uint64_t held = s->sec | s->integ | s->sa | s->sd | s->ia | s->id;
  *     struct hub_checked c = hub_check(t, held | (uint64_t)1 << n);
  *
- * It is no call: nobody is asked for as its caller, and it makes no record. It tells of sets and groups alone, to the
- * firmware, which keeps the table.
+ * It is no call: nobody is asked for as its caller, and it makes no record. It reads the groups, and of all else in the table only
+ * whether that has the form.
  */
 struct hub_checked hub_check(struct hub_table t, uint64_t held);
 

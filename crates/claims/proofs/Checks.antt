@@ -2,39 +2,39 @@
 -- Assumes nothing.
 use mathlib.Core.Path.{◌≡◌, refl, sym, ap, ◌∙◌, subst}
 use mathlib.Core.Bool.{Bool, true, false, cond, ◌||◌}
-use mathlib.Core.List.{List}
 use Prim.Native.Nat.{ℕ, zero, suc, ◌≤◌, ◌<◌, max}
 use native.Mathlib.Omega.{arith}
 use lib.Dec.{eqb, ltb}
 use lib.ListN.{length, get_or, length-take}
 use lib.Seq.{get_or-take}
 use borrow.Author.Tests.{leb-true, leb-false, eq-eqb, lt-ltb, ltb-false}
-use Rattle.std.specs.Prelude.{Ok, Err}
+use Rattle.std.specs.Prelude.{Result, Ok, Err}
 use Rattle.rules.specs.declared.Refusal.{Refusal}
-use Rattle.rules.specs.declared.Refusal.TheVariants.{BreaksGroup}
+use Rattle.rules.specs.declared.Refusal.TheVariants.{BreaksGroup, Formless}
 use Rattle.rules.specs.Numbers.{number}
 use Rattle.rules.specs.Table.{Slot, held, keeps_each, keeps_all, at}
 use Rattle.rules.specs.Calls.{hand, grant, with_rights}
 use Rattle.rules.specs.Refusals.{Refusals, ◌if◌else◌, allow, first, all_refusals, verdict}
-use Rattle.rules.specs.Runs.{final, next}
-use Rattle.rules.proofs.Facts.{either, not-false, not-true, and_left, neither_left, neither_right, condition, passed, refused-not-allowed, returned}
-use Rattle.rules.proofs.Groups.{stays_accepted}
+use Rattle.rules.proofs.Facts.{either, not-false, not-true, neither_left, neither_right, condition, passed, refused-not-allowed, returned}
 use Rattle.label.specs.declared.Label.{Label}
 use Rattle.label.specs.Tags.{label_of, tag_of, union_in, with_in, union_of, with_tag, keeps_to, common_of, empty}
 use Rattle.label.specs.Words.{words}
-use Rattle.label.proofs.Words.{words_order}
 use Rattle.label.proofs.Laws.{set_ext, tag-lt, union-tag, with-tag}
 use Rattle.entity.specs.declared.Entity.{Entity}
 use Rattle.entity.specs.Entity.{bare, rights_of}
-use Rattle.groups.specs.Check.{checked}
+use Rattle.groups.specs.declared.Checked.{Checked}
+use Rattle.groups.specs.Check.{counted, checked, check_at}
 use Rattle.groups.proofs.Counts.{walk_counts}
 use Rattle.monitor.specs.declared.Table.{Table}
 use Rattle.monitor.specs.Table.{formed, groups_of, hub}
-use Rattle.monitor.specs.Calls.{groups_checked}
-use Rattle.monitor.proofs.Form.{hub_laws}
 use Rattle.claims.specs.InForm.{stands_in}
-use Rattle.claims.specs.Checks.{CheckSpelt, ChecksSpelt, verdict_said, HandsChecked, ChecksAlike}
+use Rattle.claims.specs.Checks.{Says, ChecksSpelt, gaining, HandsChecked}
 use Rattle.claims.proofs.InForm.{form_spelt}
+
+-- ---- an answer is no refusal
+
+no_answer : (r : Refusal) (c : Checked) → ◌≡◌ {A = Result Checked Refusal} (Ok c) (Err r) → ⊥
+no_answer r c e = cc
 
 -- ---- the groups that count, by their places in the array
 
@@ -50,8 +50,8 @@ module _ (t : Table) (l : Label) (eight : length t.groups ≡ 8) (few : t.count 
   unfolding keeps_to
   more_than_one i m h = leb-false _ _ (rw (get_or-take t.count t.groups i empty m) at h)
 
-  spelt : CheckSpelt t l (checked words (groups_of t) l)
-  spelt = let c = walk_counts words empty (groups_of t) l in record {
+  spelt : Says t l (checked words (groups_of t) l)
+  spelt = let c = (walk_counts words).counts empty (groups_of t) l in record {
     kept = λ h i m. within_one i m ((c.none h).kept i (rw among m));
     all = λ h. (c.none h).all ∙ among;
     first = λ h. let f = c.first h in let b = rw among at f.within in record {
@@ -65,10 +65,12 @@ module _ (t : Table) (l : Label) (eight : length t.groups ≡ 8) (few : t.count 
 pub checks_spelt : ChecksSpelt
 checks_spelt = record {
   answered = λ t l f. rw (form_spelt.enough t f);
-  formless = λ t l h. rw h;
-  spelt = λ t l c n e. either (formed t)
-      (λ f. let d = rw f at e in let q : checked words (groups_of t) l ≡ c = cc in subst (λ x. CheckSpelt t l x) q (spelt t l n (form_spelt.holds t f).groups))
-      (λ f. let d = rw f at e in absurd cc);
+  refused = λ t l r e. either (formed t)
+      (λ f. let d = rw f at e in absurd (no_answer r (checked words (groups_of t) l) d))
+      (λ f. let d : ◌≡◌ {A = Result Checked Refusal} (Err Formless) (Err r) = rw f at e in (cc, f));
+  says = λ t l c n e. either (formed t)
+      (λ f. let d = rw f at e in let q : checked words (groups_of t) l ≡ c = cc in subst (λ x. Says t l x) q (spelt t l n (form_spelt.holds t f).groups))
+      (λ f. let d = rw f at e in absurd (no_answer Formless c (sym d)));
 }
 
 -- ---- one right more is one tag more in the union
@@ -135,33 +137,35 @@ module _ (t : Table) (i j n p : ℕ) where
   gains : Slot words
   gains = let b = at hub t j in with_rights b (grant n p b.rights)
 
-  said : (ok : Bool) → formed t ≡ true → ltb 31 j || (ltb 63 p || ltb 3 n) ≡ false → keeps_all (groups_of t) gains ≡ ok
-      → verdict_said (groups_checked t (with_tag (held (bare (stands_in t j))) p)) ≡ Ok ok
+  asked : (ok : Bool) → ltb 31 j || (words.outside p || ltb 3 n) ≡ false → keeps_all (groups_of t) gains ≡ ok → keeps_each words (groups_of t) (gaining t j p) ≡ ok
   unfolding gains
-  said ok f r k =
+  asked ok r k =
       let m : ltb j 32 ≡ true = lt-ltb j 32 (omega (arith, ltb-false 31 j (neither_left (ltb 31 j) _ r))) in
-      let e = held_with (stands_in t j) n p (ltb-false 3 n (neither_right (ltb 63 p) _ (neither_right (ltb 31 j) _ r))) in
-      rw f (ap Ok (ap (keeps_each words (groups_of t)) (sym e) ∙ (rw m at k)))
+      let e = held_with (stands_in t j) n p (ltb-false 3 n (neither_right (words.outside p) _ (neither_right (ltb 31 j) _ r))) in
+      ap (keeps_each words (groups_of t)) (sym e) ∙ (rw m at k)
 
-  allowed : verdict hub t (hand i j n p) ≡ Ok tt → verdict_said (groups_checked t (with_tag (held (bare (stands_in t j))) p)) ≡ Ok true
+  answers : (ok : Bool) (m : ℕ) → formed t ≡ true → keeps_each words (groups_of t) (gaining t j p) ≡ ok → counted words (groups_of t) (gaining t j p) ≡ m
+      → check_at hub t (gaining t j p) ≡ Ok (record { keeps = ok; counted = m })
+  answers ok m f k q = rw f (λ x. Ok (record { keeps = k x; counted = q x }))
+
+  allowed : verdict hub t (hand i j n p) ≡ Ok tt → check_at hub t (gaining t j p) ≡ Ok (record { keeps = true; counted = length (groups_of t) })
   unfolding gains
-  allowed e = let off = passed (all_refusals hub t (hand i j n p)) e in said true (not-false _ (off 99)) (off 2) (not-false _ (off 11))
+  allowed e =
+      let off = passed (all_refusals hub t (hand i j n p)) e in
+      let k = asked true (off 2) (not-false _ (off 11)) in
+      answers true _ (not-false _ (off 99)) k (((walk_counts words).counts empty (groups_of t) (gaining t j p)).none k).all
 
-  refused : verdict hub t (hand i j n p) ≡ Err BreaksGroup → verdict_said (groups_checked t (with_tag (held (bare (stands_in t j))) p)) ≡ Ok false
+  refused : verdict hub t (hand i j n p) ≡ Err BreaksGroup
+      → check_at hub t (gaining t j p) ≡ Ok (record { keeps = false; counted = counted words (groups_of t) (gaining t j p) })
   unfolding gains
   refused e =
       let r = all_refusals hub t (hand i j n p) in
       let off = clear r BreaksGroup e in
-      said false (not-false _ (off 99 refl)) (off 2 refl) (not-true _ (alone _ (returned r BreaksGroup e)))
+      answers false _ (not-false _ (off 99 refl)) (asked false (off 2 refl) (not-true _ (alone _ (returned r BreaksGroup e)))) refl
 
 pub hands_checked : HandsChecked
-hands_checked = record { allowed = allowed; refused = refused }
-
--- ---- on two tables that agree, and along a run
-
-pub checks_alike : ChecksAlike
-checks_alike = record {
-  tables = λ p t u l f g a. rw (f, g) (ap (λ (gs : List Label). Ok (checked words gs l)) a.groups);
-  runs = λ t es l a. let k = stays_accepted words_order hub hub_laws t es a in
-      rw (and_left (formed t) _ a, and_left (formed (final (next hub) t es)) _ k.accepted) (ap (λ (gs : List Label). Ok (checked words gs l)) k.groups);
+hands_checked = record {
+  allowed = allowed;
+  refused = refused;
+  place = λ t i j n p eight e. (checks_spelt.says t (gaining t j p) _ eight (refused t i j n p e)).first refl;
 }

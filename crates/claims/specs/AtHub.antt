@@ -15,6 +15,7 @@ use Rattle.rules.specs.Effects.{CallsLeave, RightsNeeded}
 use Rattle.rules.specs.Audits.{AuditByNumber, RunsAudited}
 use Rattle.label.specs.Calls.{call_with}
 use Rattle.label.specs.Words.{words}
+use Rattle.groups.specs.Claims.{ChecksAlike}
 use Rattle.records.specs.Record.{fields_as, fields_given}
 use Rattle.monitor.specs.declared.Table.{Table}
 use Rattle.monitor.specs.Table.{hub}
@@ -75,3 +76,4 @@ pub record AtHub : Type 0 where
   pub struck : StruckByNumber hub
   pub audits : AuditByNumber hub
   pub runs_audited : RunsAudited hub
+  pub checks : ChecksAlike hub

@@ -1,22 +1,19 @@
 -- Document 02, change 4: what a check of the conflict groups says, over the fields of the struct that runs; and that it is what a hand asks.
 -- Assumes nothing.
-use Rattle.std.specs.Prelude.{◌≡◌, Bool, true, false, List, ℕ, ◌-◌, ◌≤◌, ◌<◌, length, get_or, Result, Ok, Err}
-use Rattle.std.specs.Result.{result_map_both}
+use Rattle.std.specs.Prelude.{◌≡◌, true, false, ℕ, ◌-◌, ◌≤◌, ◌<◌, length, get_or, Ok, Err}
 use Rattle.rules.specs.declared.Refusal.{Refusal}
 use Rattle.rules.specs.declared.Refusal.TheVariants.{BreaksGroup, Formless}
-use Rattle.rules.specs.Table.{held, accepted}
+use Rattle.rules.specs.Table.{held}
 use Rattle.rules.specs.Calls.{hand}
 use Rattle.rules.specs.Refusals.{verdict}
-use Rattle.rules.specs.Runs.{final, Event, next, TablesAgree, bears}
 use Rattle.label.specs.declared.Label.{Label}
 use Rattle.label.specs.Tags.{empty, with_tag, common_of}
 use Rattle.label.specs.Words.{words}
 use Rattle.entity.specs.Entity.{bare}
 use Rattle.groups.specs.declared.Checked.{Checked}
-use Rattle.groups.specs.Check.{checked}
+use Rattle.groups.specs.Check.{counted, checked, check_at}
 use Rattle.monitor.specs.declared.Table.{Table}
 use Rattle.monitor.specs.Table.{formed, groups_of, hub}
-use Rattle.monitor.specs.Calls.{groups_checked}
 use Rattle.claims.specs.InForm.{stands_in, InForm}
 
 -- The n-th group, from 1, is the first of which a label has more than one tag
@@ -26,33 +23,29 @@ pub record FirstOver (t : Table) (l : Label) (n : ℕ) : Type 0 where
   pub over : 1 < common_of l (get_or t.groups (n - 1) empty)
   pub before : (i : ℕ) → i < n - 1 → common_of l (get_or t.groups i empty) ≤ 1
 
--- A check keeps where a label has at most one tag of each group that counts, and then says how many these are; where not, it says the
--- place of the first of which the label has more
-pub record CheckSpelt (t : Table) (l : Label) (c : Checked) : Type 0 where
+-- Where the answer is that each group is kept, the label has at most one tag of each of the first t.count, and so many were counted; where it is
+-- that one is broken, what was counted is the place of the first
+pub record Says (t : Table) (l : Label) (c : Checked) : Type 0 where
   pub kept : c.keeps ≡ true → (i : ℕ) → i < t.count → common_of l (get_or t.groups i empty) ≤ 1
   pub all : c.keeps ≡ true → c.counted ≡ t.count
   pub first : c.keeps ≡ false → FirstOver t l c.counted
 
 -- A table in form has an answer, any other 99. (The array of groups of a table that runs always has eight places.)
 pub record ChecksSpelt : Type 0 where
-  pub answered : (t : Table) (l : Label) → InForm t → groups_checked t l ≡ Ok (checked words (groups_of t) l)
-  pub formless : (t : Table) (l : Label) → formed t ≡ false → groups_checked t l ≡ Err Formless
-  pub spelt : (t : Table) (l : Label) (c : Checked) → length t.groups ≡ 8 → groups_checked t l ≡ Ok c → CheckSpelt t l c
+  pub answered : (t : Table) (l : Label) → InForm t → check_at hub t l ≡ Ok (checked words (groups_of t) l)
+  pub refused : (t : Table) (l : Label) (r : Refusal) → check_at hub t l ≡ Err r → (r ≡ Formless) × (formed t ≡ false)
+  pub says : (t : Table) (l : Label) (c : Checked) → length t.groups ≡ 8 → check_at hub t l ≡ Ok c → Says t l c
 
--- what a check says of the groups, without the count
-abbrev pub verdict_said : Result Checked Refusal → Result Bool Refusal
-verdict_said r = result_map_both (λ c. c.keeps) (λ n. n) r
+-- all that an entity has, its six sets together, and a tag
+abbrev pub gaining : Table → ℕ → ℕ → Label
+gaining t j p = with_tag (held (bare (stands_in t j))) p
 
--- Of a hand that is allowed or refused by 11, the check of all that the receiver has, and the tag, says which of the two it is
+-- The check of all that the receiver of a hand has, and the tag: each group is kept where the hand is allowed; and where it is refused by 11, whichever
+-- right is handed, the check says the first group that stands in the way
 pub record HandsChecked : Type 0 where
   pub allowed : (t : Table) (i j n p : ℕ) → verdict hub t (hand i j n p) ≡ Ok tt
-      → verdict_said (groups_checked t (with_tag (held (bare (stands_in t j))) p)) ≡ Ok true
+      → check_at hub t (gaining t j p) ≡ Ok (record { keeps = true; counted = length (groups_of t) })
   pub refused : (t : Table) (i j n p : ℕ) → verdict hub t (hand i j n p) ≡ Err BreaksGroup
-      → verdict_said (groups_checked t (with_tag (held (bare (stands_in t j))) p)) ≡ Ok false
-
--- A check tells nothing of what is held under a tag: it answers alike on two tables in form that differ only in such contents, and from
--- an accepted table on always as there, whatever calls and previews come between
-pub record ChecksAlike : Type 0 where
-  pub tables : (p : ℕ) (t u : Table) (l : Label) → formed t ≡ true → formed u ≡ true → TablesAgree hub (bears words p) t u
-      → groups_checked t l ≡ groups_checked u l
-  pub runs : (t : Table) (es : List (Event words)) (l : Label) → accepted hub t ≡ true → groups_checked (final (next hub) t es) l ≡ groups_checked t l
+      → check_at hub t (gaining t j p) ≡ Ok (record { keeps = false; counted = counted words (groups_of t) (gaining t j p) })
+  pub place : (t : Table) (i j n p : ℕ) → length t.groups ≡ 8 → verdict hub t (hand i j n p) ≡ Err BreaksGroup
+      → FirstOver t (gaining t j p) (counted words (groups_of t) (gaining t j p))

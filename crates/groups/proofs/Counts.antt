@@ -6,6 +6,7 @@ use mathlib.Core.List.{List, [], ◌∷◌}
 use Prim.Native.Nat.{ℕ, zero, suc, ◌-◌, ◌<◌}
 use native.Mathlib.Omega.{arith}
 use lib.ListN.{length, get_or}
+use lib.Seq.{take_all}
 use Rattle.rules.specs.Labels.{Labels}
 use Rattle.rules.specs.Table.{keeps_each}
 use Rattle.rules.proofs.Facts.{and_left, and_right}
@@ -45,4 +46,8 @@ module _ (A : Labels) (d : A.Group) (l : A.Label) where
       go false k r = rw k (record { from_1 = omega arith; within = omega arith; broken = k; before = λ i m. absurd (omega arith) })
 
 pub walk_counts : (A : Labels) → WalkCounts A
-walk_counts A d gs l = record { none = none A d l gs; first = first A d l gs }
+walk_counts A = record {
+  counts = λ d gs l. record { none = none A d l gs; first = first A d l gs };
+  no_groups = λ l. refl;
+  beyond = λ gs l n h. rw (take_all n gs h) refl;
+}

@@ -1,4 +1,4 @@
-// The check of the conflict groups: whether who holds a label keeps to each of them, and at which the check ended.
+// The check of the conflict groups: whether who has all of a label keeps to each of them, and at which the check ended.
 #![tactic(auto)]
 
 ghost use Rattle.std.specs.Prelude.{◌≡◌, take};
@@ -7,15 +7,16 @@ ghost use Rattle.groups.specs.Check.{checked};
 
 use label::Label;
 
-// What a check gives back: whether each group is kept, and how many groups were counted for that: the place of the first broken one,
-// from 1, or the number of groups where none is broken.
+// What a check gives back: whether each group is kept, and how many were counted: the place of the first that is broken, from 1, or the
+// number of groups where none is.
 #[derive(Clone, Copy)]
 pub struct Checked {
     pub keeps: bool,
     pub counted: usize,
 }
 
-// The check of the first `count` groups, of all where there are fewer, for who holds so much. It ends at the first that is broken.
+// The check of the first `count` groups, of all where there are fewer, for who has all of the label `held`. It ends at the first that is
+// broken.
 pub fn check(groups: &[Label], count: usize, held: Label) -> Checked
     ensures { result ≡ checked words (take count groups.now) held }
 {

@@ -8,8 +8,10 @@ use Rattle.rules.specs.Refusals.{number_of, on_allowed}
 use Rattle.label.specs.Tags.{label_of}
 use Rattle.label.specs.Words.{words}
 use Rattle.groups.specs.declared.Checked.{Checked}
+use Rattle.groups.specs.Check.{check_at}
 use Rattle.monitor.specs.declared.Reply.{Reply}
-use Rattle.monitor.specs.Calls.{reply, audited, groups_checked}
+use Rattle.monitor.specs.Table.{hub}
+use Rattle.monitor.specs.Calls.{reply, audited}
 use Rattle.layout.specs.declared.HubTable.{HubTable}
 use Rattle.layout.specs.Struct.{table_of, struct_of}
 use Rattle.load.specs.declared.Loaded.{Loaded}
@@ -36,13 +38,13 @@ audit_answer t i list buf = record {
   len = length (audited (table_of t) i list buf).part;
 }
 
--- a check for who holds the tags of a number; refused, it keeps to no group, and none was counted
+-- a check for the tags of a number: 0, the verdict and the count; refused, the refusal's number, false and 0
 abbrev pub checked_as : Result Checked Refusal → HubChecked
 checked_as (Ok c) = record { number = 0; keeps = c.keeps; counted = c.counted }
 checked_as (Err n) = record { number = number n; keeps = false; counted = 0 }
 
 unfoldable pub check_answer : HubTable → ℕ → HubChecked
-check_answer t held = checked_as (groups_checked (table_of t) (label_of held))
+check_answer t held = checked_as (check_at hub (table_of t) (label_of held))
 
 unfoldable pub loaded_as : Loaded → HubLoaded
 loaded_as l = record { table = struct_of l.table; number = verdict_number l.verdict; line = verdict_line l.verdict }

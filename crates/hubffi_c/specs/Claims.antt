@@ -24,7 +24,7 @@ kept_after s (preview c) = s
 
 -- A call on a struct returns the rules' number and record, and the struct of the rules' next table; a refused one hands back
 -- the very struct, whatever its kinds and lengths. So a list of calls and previews on structs is the rules' run, and the claims at the
--- hub's table hold of it. Another kind is refused by 99. A loaded struct is that of an accepted table.
+-- hub's table hold of it. A check is that of the table's groups. Another kind is refused by 99. A loaded struct is that of an accepted table.
 pub record CallsAsRules : Type 0 where
   pub table : (s : HubTable) (c : Call words) → table_of (reply_to s c).table ≡ step hub (table_of s) c
   pub number : (s : HubTable) (c : Call words) → (reply_to s c).number ≡ number_of (answer hub (table_of s) c).outcome

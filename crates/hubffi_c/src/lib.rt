@@ -1,4 +1,4 @@
-// The monitor for C and Rust: the nine calls, the audit and loading on the struct of a table, which goes in and comes back
+// The monitor for C and Rust: the nine calls, the audit, the check of the groups and loading on the struct of a table, which goes in and comes back
 // by value. A `&[u8]` is a pointer and then a length there; include/hub.h declares what stands here.
 #![tactic(auto)]
 
@@ -34,8 +34,8 @@ pub struct HubAudit {
     pub len: usize,
 }
 
-// What a check of the groups hands back: 0 or 99, whether each group is kept, and how many groups were counted: the place of the first
-// that is broken, from 1, or the number of groups where none is.
+// What a check of the groups hands back: 0, whether each group is kept, and how many were counted: the place of the first that is broken,
+// from 1, or the number of groups where none is. Or 99, false and 0.
 #[repr(C)]
 #[derive(Clone, Copy)]
 pub struct HubChecked {
@@ -167,7 +167,7 @@ pub extern "C" fn hub_audit(t: HubTable, caller: u8, list: &[u8], out: &mut [u8]
     }
 }
 
-// The check of the groups for who holds so much, all sets together.
+// The check of the groups for the tags of a number, as the union of somebody's six sets.
 #[unsafe(no_mangle)]
 #[tactic(auto, unfolding(crate::specs::Answers::check_answer))]
 pub extern "C" fn hub_check(t: HubTable, held: u64) -> HubChecked

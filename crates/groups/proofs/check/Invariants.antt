@@ -4,8 +4,8 @@ use Rattle.label.specs.Words.{words}
 use Rattle.groups.specs.Check.{counted}
 use Rattle.groups.proofs.check.Given as goal
 
--- `groups::check` meets its contract. The loop's invariant: the counter is the number of groups passed, each of which is kept, so that all
--- are kept if those that are left are, and these are what is still to be counted. Assumes nothing.
+-- `groups::check` meets its contract. The loop's invariant: the counter is the number of groups passed, the verdict on those that are left is
+-- that on all, and the counter and the count of those left are the count of all. So none that was passed is broken. Assumes nothing.
 
 abbrev pub invariant-loop-group : goal.invariant-loop-group
 invariant-loop-group l = let left = drop l.group-index l.group-items in record {
