@@ -1,27 +1,24 @@
 -- What a check of the groups says: the first broken one of those that count, and of a hand whether 11 applies.
 -- Assumes nothing.
 use mathlib.Core.Path.{◌≡◌, refl, sym, ap, ◌∙◌, subst}
-use mathlib.Core.Bool.{Bool, true, false, cond, ◌||◌}
-use Prim.Native.Nat.{ℕ, zero, suc, ◌≤◌, ◌<◌, max}
+use mathlib.Core.Bool.{Bool, true, false, ◌||◌}
+use Prim.Native.Nat.{ℕ, ◌≤◌, ◌<◌}
 use native.Mathlib.Omega.{arith}
-use lib.Dec.{eqb, ltb}
+use lib.Dec.{ltb}
 use lib.ListN.{length, get_or, length-take}
 use lib.Seq.{get_or-take}
-use borrow.Author.Tests.{leb-true, leb-false, eq-eqb, lt-ltb, ltb-false}
+use borrow.Author.Tests.{leb-true, leb-false, lt-ltb, ltb-false}
 use Rattle.std.specs.Prelude.{Result, Ok, Err}
 use Rattle.rules.specs.declared.Refusal.{Refusal}
 use Rattle.rules.specs.declared.Refusal.TheVariants.{BreaksGroup, Formless}
-use Rattle.rules.specs.Numbers.{number}
-use Rattle.rules.specs.Table.{Slot, held, keeps_each, keeps_all, at}
+use Rattle.rules.specs.Table.{Slot, keeps_each, keeps_all, at}
 use Rattle.rules.specs.Calls.{hand, grant, with_rights}
-use Rattle.rules.specs.Refusals.{Refusals, ◌if◌else◌, allow, first, all_refusals, verdict}
-use Rattle.rules.proofs.Facts.{either, not-false, not-true, neither_left, neither_right, condition, passed, refused-not-allowed, returned}
+use Rattle.rules.specs.Refusals.{all_refusals, verdict}
+use Rattle.rules.proofs.Facts.{either, alone, clear, not-false, not-true, neither_left, neither_right, passed, returned}
 use Rattle.label.specs.declared.Label.{Label}
-use Rattle.label.specs.Tags.{label_of, tag_of, union_in, with_in, union_of, with_tag, keeps_to, common_of, empty}
+use Rattle.label.specs.Tags.{keeps_to, common_of, empty}
 use Rattle.label.specs.Words.{words}
-use Rattle.label.proofs.Laws.{set_ext, tag-lt, union-tag, with-tag}
-use Rattle.entity.specs.declared.Entity.{Entity}
-use Rattle.entity.specs.Entity.{bare, rights_of}
+use Rattle.entity.proofs.Held.{held_with}
 use Rattle.groups.specs.declared.Checked.{Checked}
 use Rattle.groups.specs.Check.{counted, checked, check_at}
 use Rattle.groups.proofs.Counts.{walk_counts}
@@ -73,65 +70,7 @@ checks_spelt = record {
       (λ f. let d = rw f at e in absurd (no_answer Formless c (sym d)));
 }
 
--- ---- one right more is one tag more in the union
-
--- with a tag in either of two sets it is in their union
-module _ (k a b p : ℕ) where
-  with_left : union_in k (with_in k a p) b ≡ with_in k (union_in k a b) p
-  unfolding union_in with_in
-  with_left = set_ext k _ _ (λ n l. ap (λ (x : ℕ). max x (tag_of b n)) (with-tag k a p n l) ∙ go (eqb n p) n ∙ sym (ap (λ (x : ℕ). cond (eqb n p) 1 x) (union-tag k a b n l)))
-    where
-      go : (x : Bool) (n : ℕ) → max (cond x 1 (tag_of a n)) (tag_of b n) ≡ cond x 1 (max (tag_of a n) (tag_of b n))
-      go true n = omega (arith, tag-lt b n)
-      go false n = refl
-
-  with_right : union_in k a (with_in k b p) ≡ with_in k (union_in k a b) p
-  unfolding union_in with_in
-  with_right = set_ext k _ _ (λ n l. ap (λ (x : ℕ). max (tag_of a n) x) (with-tag k b p n l) ∙ go (eqb n p) n ∙ sym (ap (λ (x : ℕ). cond (eqb n p) 1 x) (union-tag k a b n l)))
-    where
-      go : (x : Bool) (n : ℕ) → max (tag_of a n) (cond x 1 (tag_of b n)) ≡ cond x 1 (max (tag_of a n) (tag_of b n))
-      go true n = omega (arith, tag-lt a n)
-      go false n = refl
-
-left-with : (a b : Label) (p : ℕ) → union_of (with_tag a p) b ≡ with_tag (union_of a b) p
-unfolding union_of with_tag
-left-with a b p = ap label_of (with_left 64 a.bits b.bits p)
-
-right-with : (a b : Label) (p : ℕ) → union_of a (with_tag b p) ≡ with_tag (union_of a b) p
-unfolding union_of with_tag
-right-with a b p = ap label_of (with_right 64 a.bits b.bits p)
-
--- whichever right it is
-held_with : (e : Entity) (n p : ℕ) → n ≤ 3 → held (with_rights (bare e) (grant n p (rights_of e))) ≡ with_tag (held (bare e)) p
-held_with e zero p h = rw (left-with e.sa e.sd p, right-with (union_of e.sec e.int) (union_of e.sa e.sd) p, left-with (union_of (union_of e.sec e.int) (union_of e.sa e.sd)) (union_of e.ia e.id) p) refl
-held_with e (suc zero) p h = rw (right-with e.sa e.sd p, right-with (union_of e.sec e.int) (union_of e.sa e.sd) p, left-with (union_of (union_of e.sec e.int) (union_of e.sa e.sd)) (union_of e.ia e.id) p) refl
-held_with e (suc (suc zero)) p h = rw (left-with e.ia e.id p, right-with (union_of (union_of e.sec e.int) (union_of e.sa e.sd)) (union_of e.ia e.id) p) refl
-held_with e (suc (suc (suc zero))) p h = rw (right-with e.ia e.id p, right-with (union_of (union_of e.sec e.int) (union_of e.sa e.sd)) (union_of e.ia e.id) p) refl
-held_with e (suc (suc (suc (suc n)))) p h = absurd (omega arith)
-
 -- ---- a hand for which no refusal before 11 applies
-
--- the refusal numbered k stands before the one numbered n
-abbrev ahead : ℕ → ℕ → Refusals → Bool
-ahead k n allow = false
-ahead k n (m if b else r) = cond (eqb n (number m)) false (cond (eqb k (number m)) true (ahead k n r))
-
--- before a refusal that is returned no condition holds
-clear : (r : Refusals) (n : Refusal) → first r ≡ Err n → (k : ℕ) → ahead k (number n) r ≡ true → condition k r ≡ false
-clear allow n e k h = absurd (refused-not-allowed n (sym e))
-clear (m if true else r) n e k h =
-    let q : m ≡ n = cc in
-    let x = rw (eq-eqb (number n) (number m) (ap number (sym q))) at h in absurd cc
-clear (m if false else r) n e k h = go (eqb (number n) (number m)) (eqb k (number m)) h (clear r n e k)
-  where
-    go : (b c : Bool) → cond b false (cond c true (ahead k (number n) r)) ≡ true → (ahead k (number n) r ≡ true → condition k r ≡ false) → cond c false (condition k r) ≡ false
-    go true c h f = absurd cc
-    go false true h f = refl
-    go false false h f = f h
-
-alone : (b : Bool) → b || false ≡ true → b ≡ true
-alone true e = refl
-alone false e = e
 
 module _ (t : Table) (i j n p : ℕ) where
   gains : Slot words

@@ -10,21 +10,14 @@ use lib.Seq.{take_all}
 use Rattle.rules.specs.Labels.{Labels}
 use Rattle.rules.specs.Table.{keeps_each}
 use Rattle.rules.proofs.Facts.{and_left, and_right}
+use Rattle.rules.proofs.Held.{each}
 use Rattle.groups.specs.Check.{counted}
-use Rattle.groups.specs.Claims.{NoneBroken, FirstBroken, WalkCounts}
+use Rattle.groups.specs.Claims.{FirstBroken, WalkCounts}
 
 module _ (A : Labels) (d : A.Group) (l : A.Label) where
-  none : (gs : List A.Group) → keeps_each A gs l ≡ true → NoneBroken A d gs l (counted A gs l)
-  none [] h = record { kept = λ i m. absurd (omega arith); all = refl }
-  none (g ∷ gs) h =
-      let k = and_left (A.keeps g l) _ h in
-      let r = none gs (and_right (A.keeps g l) _ h) in
-      rw k (record { kept = at k r.kept; all = ap suc r.all })
-    where
-      at : A.keeps g l ≡ true → ((i : ℕ) → i < length gs → A.keeps (get_or gs i d) l ≡ true)
-          → (i : ℕ) → i < suc (length gs) → A.keeps (get_or (g ∷ gs) i d) l ≡ true
-      at k r zero m = k
-      at k r (suc i) m = r i (omega arith)
+  all : (gs : List A.Group) → keeps_each A gs l ≡ true → counted A gs l ≡ length gs
+  all [] h = refl
+  all (g ∷ gs) h = rw (and_left (A.keeps g l) _ h) (ap suc (all gs (and_right (A.keeps g l) _ h)))
 
   first : (gs : List A.Group) → keeps_each A gs l ≡ false → FirstBroken A d gs l (counted A gs l)
   first [] h = absurd cc
@@ -47,7 +40,7 @@ module _ (A : Labels) (d : A.Group) (l : A.Label) where
 
 pub walk_counts : (A : Labels) → WalkCounts A
 walk_counts A = record {
-  counts = λ d gs l. record { none = none A d l gs; first = first A d l gs };
+  counts = λ d gs l. record { none = λ h. record { kept = each A d l gs h; all = all A d l gs h }; first = first A d l gs };
   no_groups = λ l. refl;
   beyond = λ gs l n h. rw (take_all n gs h) refl;
 }

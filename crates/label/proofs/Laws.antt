@@ -150,6 +150,22 @@ pub without-tag : (k a t n : ℕ) → n < k → tag_of (without_in k a t) n ≡ 
 unfolding without_in
 without-tag k a t n l = tag-set k _ (λ m. cond-lt (eqb m t) 0 (tag_of a m) (omega arith) (tag-lt a m)) n l
 
+-- a tag more in either of two sets is one more in their union
+union_swaps : (k a b : ℕ) → union_in k a b ≡ union_in k b a
+unfolding union_in
+union_swaps k a b = set_ext k _ _ (λ n l. omega arith)
+
+pub union_with_left : (k a b p : ℕ) → union_in k (with_in k a p) b ≡ with_in k (union_in k a b) p
+unfolding union_in with_in
+union_with_left k a b p = set_ext k _ _ (λ n l. ap (λ (x : ℕ). max x (tag_of b n)) (with-tag k a p n l) ∙ go (eqb n p) n ∙ sym (ap (λ (x : ℕ). cond (eqb n p) 1 x) (union-tag k a b n l)))
+  where
+    go : (x : Bool) (n : ℕ) → max (cond x 1 (tag_of a n)) (tag_of b n) ≡ cond x 1 (max (tag_of a n) (tag_of b n))
+    go true n = omega (arith, tag-lt b n)
+    go false n = refl
+
+pub union_with_right : (k a b p : ℕ) → union_in k a (with_in k b p) ≡ with_in k (union_in k a b) p
+union_with_right k a b p = union_swaps k a (with_in k b p) ∙ union_with_left k b a p ∙ ap (λ (x : ℕ). with_in k x p) (union_swaps k b a)
+
 -- ---- the operations are the sets of the definitions
 pub union_is : (k a b : ℕ) → a < 2 ^ k → b < 2 ^ k → bit_or a b ≡ union_in k a b
 unfolding union_in

@@ -18,7 +18,7 @@ use Rattle.rules.specs.Calls.{Call, put, show, send, fetch, add_tag, drop_tag, c
 use Rattle.rules.specs.Refusals.{refusals, all_refusals, verdict, step}
 use Rattle.rules.specs.Laws.{OrderLaws, TableLaws}
 use Rattle.rules.specs.Effects.{Leaves, Same, Effects, CallsLeave, Asks, RightsNeeded}
-use Rattle.rules.proofs.Facts.{not-false, not-true, condition, some_numbered, returned}
+use Rattle.rules.proofs.Facts.{alone, not-false, not-true, condition, some_numbered, returned}
 use Rattle.rules.proofs.Steps.{Pass, pass, writes, step_at, step_groups}
 use Rattle.rules.proofs.Refused.{filled-rest}
 
@@ -101,10 +101,6 @@ pub calls_leave : {A : Labels} → OrderLaws A → (T : Tables A) → TableLaws 
 calls_leave O T L t = effects T t (step_at T O L t) (step_groups T O L t)
 
 -- ---- the rights that are asked for
-
-alone : (b : Bool) → b || false ≡ true → b ≡ true
-alone true e = refl
-alone false e = e
 
 module _ {A : Labels} (T : Tables A) (t : T.Table) where
   asks : (c : Call A) (l : A.Label) (p : A.Tag)

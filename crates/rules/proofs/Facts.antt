@@ -1,6 +1,6 @@
 -- Facts on Booleans, on refusals in order, and on arrays of structs.
 -- Assumes nothing.
-use mathlib.Core.Path.{◌≡◌, refl, sym, ◌∙◌}
+use mathlib.Core.Path.{◌≡◌, refl, sym, ◌∙◌, ap}
 use mathlib.Core.Bool.{Bool, true, false, cond, not, ◌&&◌, ◌||◌}
 use mathlib.Core.List.{List, map}
 use Prim.Native.Nat.{ℕ}
@@ -32,6 +32,10 @@ and_left false b e = e
 pub and_right : (a b : Bool) → a && b ≡ true → b ≡ true
 and_right true b e = e
 and_right false b e = cc
+
+pub alone : (b : Bool) → b || false ≡ true → b ≡ true
+alone true e = refl
+alone false e = e
 
 pub both : (a b : Bool) → a ≡ true → b ≡ true → a && b ≡ true
 both true b e h = h
@@ -99,6 +103,24 @@ number_of_first f (m if false else r) n e h = number_of_first f r n e (and_right
 
 pub refused-not-allowed : (n : Refusal) → ◌≡◌ {A = Outcome} (Err n) (Ok tt) → ⊥
 refused-not-allowed n e = cc
+
+-- the refusal numbered k stands before the one numbered n
+abbrev pub ahead : ℕ → ℕ → Refusals → Bool
+ahead k n allow = false
+ahead k n (m if b else r) = cond (eqb n (number m)) false (cond (eqb k (number m)) true (ahead k n r))
+
+-- before a refusal that is returned no condition holds
+pub clear : (r : Refusals) (n : Refusal) → first r ≡ Err n → (k : ℕ) → ahead k (number n) r ≡ true → condition k r ≡ false
+clear allow n e k h = absurd (refused-not-allowed n (sym e))
+clear (m if true else r) n e k h =
+    let q : m ≡ n = cc in
+    let x = rw (eq-eqb (number n) (number m) (ap number (sym q))) at h in absurd cc
+clear (m if false else r) n e k h = go (eqb (number n) (number m)) (eqb k (number m)) h (clear r n e k)
+  where
+    go : (b c : Bool) → cond b false (cond c true (ahead k (number n) r)) ≡ true → (ahead k (number n) r ≡ true → condition k r ≡ false) → cond c false (condition k r) ≡ false
+    go true c h f = absurd cc
+    go false true h f = refl
+    go false false h f = f h
 
 -- some refusal numbered n applies; that of the number which is returned does
 abbrev pub some_numbered : ℕ → Refusals → Bool

@@ -32,7 +32,7 @@ module _ {A : Labels} (O : OrderLaws A) where
       ∙ six (A.below e.sec l) (A.below e.int l) (A.below r.sa l) (A.below r.sd l) (A.below r.ia l) (A.below r.id l)
 
 module _ (A : Labels) (d : A.Group) (l : A.Label) where
-  each : (gs : List A.Group) → keeps_each A gs l ≡ true → (k : ℕ) → k < length gs → A.keeps (get_or gs k d) l ≡ true
+  pub each : (gs : List A.Group) → keeps_each A gs l ≡ true → (k : ℕ) → k < length gs → A.keeps (get_or gs k d) l ≡ true
   each [] h k m = absurd (omega arith)
   each (x ∷ gs) h zero m = and_left (A.keeps x l) _ h
   each (x ∷ gs) h (suc k) m = each gs (and_right (A.keeps x l) _ h) k (omega arith)
