@@ -44,6 +44,7 @@
 #ifndef HUB_H
 #define HUB_H
 
+#include <stdbool.h>
 #include <stddef.h>
 #include <stdint.h>
 
@@ -126,6 +127,17 @@ struct hub_audited {
     size_t len;
 };
 
+/*
+ * What a check of the groups hands back: 0, or 99 where the table lacks the form; whether each group is kept; and how many groups
+ * were counted: where none is broken, the number of groups, and else the place of the first that is broken, from 1. So
+ * that one is t.groups[counted - 1]. Under 99 `keeps` is false and `counted` is 0.
+ */
+struct hub_checked {
+    uint8_t number;
+    bool keeps;
+    size_t counted;
+};
+
 /* What loading hands back: the table, 0 and line 0; or the empty table, the refusal and its line. */
 struct hub_loaded {
     struct hub_table table;
@@ -138,6 +150,7 @@ typedef char hub_slot_has_64_bytes[sizeof(struct hub_slot) == 64 ? 1 : -1];
 typedef char hub_table_has_4168_bytes[sizeof(struct hub_table) == 4168 ? 1 : -1];
 typedef char hub_reply_has_4192_bytes[sizeof(struct hub_reply) == 4192 ? 1 : -1];
 typedef char hub_audited_has_16_bytes[sizeof(struct hub_audited) == 16 ? 1 : -1];
+typedef char hub_checked_has_16_bytes[sizeof(struct hub_checked) == 16 ? 1 : -1];
 typedef char hub_loaded_has_4184_bytes[sizeof(struct hub_loaded) == 4184 ? 1 : -1];
 
 /* A table of free slots, without groups. */
@@ -205,6 +218,20 @@ struct hub_reply hub_hand(struct hub_table t, uint8_t caller, uint8_t other, uin
  */
 struct hub_audited hub_audit(struct hub_table t, uint8_t caller, const uint8_t *list, size_t length,
                              uint8_t *out, size_t room);
+
+/*
+ * A check of the conflict groups for who holds the tags of `held`: whether `held` has at most one tag in common with each, and
+ * which is the first with which it has more. What an entity holds is all its six sets together. So this is what a hand of tag n to
+ * slot k asks, behind all its other refusals, and says which group stands in the way of one that is refused by 11:
+ *
+ *     const struct hub_slot *s = &t.slots[k];
+ *     uint64_t held = s->sec | s->integ | s->sa | s->sd | s->ia | s->id;
+ *     struct hub_checked c = hub_check(t, held | (uint64_t)1 << n);
+ *
+ * It is no call: nobody is asked for as its caller, and it makes no record. It tells of sets and groups alone, to the
+ * firmware, which keeps the table.
+ */
+struct hub_checked hub_check(struct hub_table t, uint64_t held);
 
 #ifdef __cplusplus
 }

@@ -3,3 +3,4 @@ pub mod InForm
 pub mod Groups
 pub mod Effects
 pub mod Cases
+pub mod Checks

@@ -1,15 +1,36 @@
-// Conflict groups: whether who holds a label keeps to each of them.
+// The check of the conflict groups: whether who holds a label keeps to each of them, and at which the check ended.
 #![tactic(auto)]
 
-ghost use Rattle.std.specs.Prelude.{◌≡◌};
-ghost use Rattle.rules.specs.Table.{keeps_each};
+ghost use Rattle.std.specs.Prelude.{◌≡◌, take};
 ghost use Rattle.label.specs.Words.{words};
+ghost use Rattle.groups.specs.Check.{checked};
 
 use label::Label;
 
-// Whether who holds so much keeps to each of the groups.
-pub fn keeps_each(groups: &[Label], held: Label) -> bool
-    ensures { result ≡ keeps_each words groups.now held }
+// What a check gives back: whether each group is kept, and how many groups were counted for that: the place of the first broken one,
+// from 1, or the number of groups where none is broken.
+#[derive(Clone, Copy)]
+pub struct Checked {
+    pub keeps: bool,
+    pub counted: usize,
+}
+
+// The check of the first `count` groups, of all where there are fewer, for who holds so much. It ends at the first that is broken.
+pub fn check(groups: &[Label], count: usize, held: Label) -> Checked
+    ensures { result ≡ checked words (take count groups.now) held }
 {
-    groups.iter().all(|group| label::keeps(*group, held))
+    let mut counted = 0;
+    for group in handing::front(groups, count) {
+        counted += 1;
+        if !label::keeps(*group, held) {
+            return Checked {
+                keeps: false,
+                counted,
+            };
+        }
+    }
+    Checked {
+        keeps: true,
+        counted,
+    }
 }

@@ -14,7 +14,7 @@ use Rattle.rules.specs.Record.{answer}
 use Rattle.rules.specs.Runs.{final, trace, Event, call, preview, call_of, gained, next, records}
 use Rattle.label.specs.Words.{words}
 use Rattle.monitor.specs.declared.Table.{Table}
-use Rattle.monitor.specs.Table.{hub}
+use Rattle.monitor.specs.Table.{formed, hub}
 use Rattle.monitor.specs.Calls.{reply, audited}
 use Rattle.rules.proofs.Refused.{refusals_move_nothing}
 use Rattle.layout.specs.declared.HubTable.{HubTable}
@@ -22,7 +22,7 @@ use Rattle.layout.specs.Struct.{kinds_known, table_of, struct_of}
 use Rattle.layout.proofs.Claims.{struct_stands}
 use Rattle.load.specs.Load.{load_of}
 use Rattle.load.proofs.Accepted.{loads_accepted}
-use Rattle.hubffi_c.specs.Answers.{answered, reply_to, audit_answer, loaded_as}
+use Rattle.hubffi_c.specs.Answers.{answered, reply_to, audit_answer, check_answer, loaded_as}
 use Rattle.hubffi_c.specs.Claims.{kept_after, CallsAsRules}
 use Rattle.rules.specs.declared.Refusal.TheVariants.{Formless}
 
@@ -62,12 +62,16 @@ unknown_audit : (s : HubTable) (i : ℕ) (list buf : List ℕ) → kinds_known s
 unfolding audit_answer audited
 unknown_audit s i list buf h = rw (struct_stands.unknown s h)
 
+formless_check : (s : HubTable) (l : ℕ) → formed (table_of s) ≡ false → check_answer s l ≡ record { number = 99; keeps = false; counted = 0 }
+unfolding check_answer
+formless_check s l h = rw h
+
 loaded : (text : List ℕ) → accepted hub (table_of (loaded_as (load_of text)).table) ≡ true
 unfolding loaded_as
 loaded text = ap (accepted hub) (struct_stands.table_back (load_of text).table) ∙ loads_accepted text
 
 pub calls_as_rules : CallsAsRules
-unfolding answered reply audit_answer audited loaded_as load_of
+unfolding answered reply audit_answer audited check_answer loaded_as load_of
 calls_as_rules = record {
   table = call-table;
   number = λ s c. refl;
@@ -79,6 +83,9 @@ calls_as_rules = record {
   unknown_audit = unknown_audit;
   audit_number = λ s i list buf. refl;
   audit-len = λ s i list buf. refl;
+  check = λ s l h. rw h;
+  check_formless = formless_check;
+  unknown_check = λ s l h. formless_check s l (struct_stands.unknown s h);
   loads = λ text. struct_stands.table_back (load_of text).table;
   loaded_number = λ text. refl;
   loaded_line = λ text. refl;

@@ -9,8 +9,9 @@ ghost use Rattle.label.specs.Calls.{call_with};
 ghost use Rattle.monitor.specs.Calls.{shown_buffer, buffer_after, audited};
 ghost use Rattle.load.specs.Load.{load_of};
 ghost use Rattle.layout.specs.Struct.{table_of, struct_of};
-ghost use Rattle.hubffi_c.specs.Answers.{reply_to, audit_answer, loaded_as};
+ghost use Rattle.hubffi_c.specs.Answers.{reply_to, audit_answer, check_answer, loaded_as};
 
+use label::Label;
 use layout::HubTable;
 use monitor::Table;
 use rules::Call;
@@ -31,6 +32,16 @@ pub struct HubReply {
 pub struct HubAudit {
     pub number: u8,
     pub len: usize,
+}
+
+// What a check of the groups hands back: 0 or 99, whether each group is kept, and how many groups were counted: the place of the first
+// that is broken, from 1, or the number of groups where none is.
+#[repr(C)]
+#[derive(Clone, Copy)]
+pub struct HubChecked {
+    pub number: u8,
+    pub keeps: bool,
+    pub counted: usize,
 }
 
 // What loading hands back: the table, and 0 and line 0, or the number of the refusal and its line.
@@ -152,6 +163,27 @@ pub extern "C" fn hub_audit(t: HubTable, caller: u8, list: &[u8], out: &mut [u8]
         Err(refusal) => HubAudit {
             number: refusal.number(),
             len: 0,
+        },
+    }
+}
+
+// The check of the groups for who holds so much, all sets together.
+#[unsafe(no_mangle)]
+#[tactic(auto, unfolding(crate::specs::Answers::check_answer))]
+pub extern "C" fn hub_check(t: HubTable, held: u64) -> HubChecked
+    ensures { result ≡ check_answer t held }
+{
+    let table = layout::table_of(&t);
+    match table.check(Label { bits: held }) {
+        Ok(checked) => HubChecked {
+            number: 0,
+            keeps: checked.keeps,
+            counted: checked.counted,
+        },
+        Err(refusal) => HubChecked {
+            number: refusal.number(),
+            keeps: false,
+            counted: 0,
         },
     }
 }
