@@ -47,6 +47,13 @@ def on_groups(count, words, *many):
     return plain(groups_line(count, words)) + [check(held, count, words) for held in many]
 
 
+def ended(lines):
+    """And then one call, whose record alone an audit of `run` shows."""
+    record = "0100ff0001ffff000000000000000000"
+    called = [("put 0 01", f"0 {record} - - "), ("audit 0 run 16 ee", f"0 - {record} {record} ")]
+    return [*lines, *plain(slot_line(0, 2)), *called, *plain("dump")]
+
+
 # ---- scripts
 
 # Groups of two tags each.
@@ -61,7 +68,7 @@ def counts():
     lines = plain("table")
     for count in range(MOST + 1):
         lines += on_groups(count, TWOS, *many)
-    return lines + plain("dump")
+    return ended(lines)
 
 
 def common():
@@ -76,7 +83,7 @@ def common():
     some = [tags(*held) for length in range(6) for held in itertools.combinations((0, 1, 2, 3, 9), length)]
     for words in (mixed, mixed[::-1]):
         lines += on_groups(MOST, words, *some, tags(40, 50), ALL)
-    return lines + plain("dump")
+    return ended(lines)
 
 
 def each_tag():
@@ -89,7 +96,7 @@ def each_tag():
         lines += on_groups(MOST, words, tags(tag), tags(other), tags(tag, other), ALL ^ tags(tag), ALL)
     pairs = [tags(end, tag) for end in (0, 63) for tag in range(1, 63)]
     lines += on_groups(1, padded(), *map(tags, range(64)), *pairs, tags(0, 63))
-    return lines + plain("dump")
+    return ended(lines)
 
 
 # An item, a program and a free slot.
@@ -123,7 +130,7 @@ def lacking():
         lines += on_groups(count, words, 0, ALL)
         for broken, mended in defects(count, words):
             lines += [*plain(broken), check_99(0), check_99(tags(4, 5)), *plain(mended), check(tags(4, 5), count, words)]
-    return lines + plain("dump")
+    return ended(lines)
 
 
 # By slot: kind, S, I, each of the four rights, content. The program in slot 9 breaks a group.
@@ -203,7 +210,7 @@ def loaded():
         lines += [(load(words, row, end=""), f"15 line{count + 6} "), check(ALL, 0, [])]
         lines += [(load(words, row), "0 line0 "), (load(words, row, row), "16 line3 "), check(ALL, 0, [])]
         lines += [(load([*words[1:], TWOS[0]], "5 item 3 0 0 0 0 0 -"), "17 line2 "), check(TWOS[0], 0, [])]
-    return lines + plain("dump")
+    return ended(lines)
 
 
 SCRIPTS = {script.__name__: script() for script in (counts, common, each_tag, lacking, hands, between, loaded)}
