@@ -33,6 +33,7 @@ static const char TEXT[] =
     "\n"
     "call caller other set tag data\n";
 
+/* Whose hands are made, and to whom: slots of the text, a free one, and such as there are not. */
 static const uint8_t slots[] = {0, 1, 2, 3, 4, 5, 6, 7, 8, 9, 20, 31, 32, 255};
 
 /* A count, and all eight words. */
