@@ -1,14 +1,15 @@
-"""What a program answers to a script (model/SCRIPT.md), and whether its answers to previews agree with its other answers.
-That needs no answer of the model."""
+"""What a program answers to a script (model/SCRIPT.md), and whether its answers to previews and checks agree with its other
+answers. That needs no answer of the model."""
 import re
 
 import streams
 
 SILENT = ('table', 'slot', 'bytes', 'groups')
 PREVIEW = 'preview '
+ASKING = (PREVIEW, 'check ')  # commands that begin so change nothing
 SLOTS, ENTITY, AREA = 32, 57, 64
 DUMP = '[0-9a-f]{%d}' % (2 * (SLOTS * (ENTITY + AREA) + 8 + 8 * 8))
-TOLD = {'load': 'line[0-9]+', 'audit': '-'}  # beside the number; the others tell a record
+TOLD = {'load': 'line[0-9]+', 'audit': '-', 'check': '(keeps|breaks)[0-8]'}  # beside the number; the others tell a record
 RECORD = '[0-9a-f]{32}'
 ANSWER = '[0-9]+ (%s)( [0-9a-f]+| -){2} [0-9a-f]{16}'
 BAD_END = 'a bad end, or lines are missing, too many or of another form'
@@ -40,9 +41,9 @@ def parted(answer):
 
 
 def fault(program, run):
-    """What is wrong with the previews of a script that a program played, None if nothing is. A preview leaves the table as
-    it is; where the call itself comes next, it is answered like the preview; and where all previews are left out, the other
-    commands are answered as before, audits of `run` among them."""
+    """What is wrong with the previews and checks of a script that a program played, None if nothing is. Each leaves the table
+    as it is; where the call itself comes after a preview, it is answered like that; and where all of them are left out, the
+    other commands are answered as before, audits of `run` among them."""
     if run is None:
         return BAD_END
     table = None  # its digest, where an answer has told it
@@ -51,13 +52,12 @@ def fault(program, run):
             table = None
         elif command != 'dump':
             told, digest = parted(answer)
-            if command.startswith(PREVIEW):
-                if table not in (None, digest):
-                    return '%s changes the table' % command
-                if following == command[len(PREVIEW):] and parted(its_answer)[0] != told:
-                    return '%s is answered otherwise than the call' % command
+            if command.startswith(ASKING) and table not in (None, digest):
+                return '%s changes the table' % command
+            if command == PREVIEW + following and parted(its_answer)[0] != told:
+                return '%s is answered otherwise than the call' % command
             table = digest
-    others = [(command, answer) for command, answer in run if not command.startswith(PREVIEW)]
+    others = [(command, answer) for command, answer in run if not command.startswith(ASKING)]
     if played(program, ''.join(command + '\n' for command, _ in others)) != others:
-        return 'without the previews the other commands are answered otherwise'
+        return 'without the previews and checks the other commands are answered otherwise'
     return None

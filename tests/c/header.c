@@ -44,6 +44,7 @@ int main(void) {
     uint8_t list[2 * HUB_RECORD] = {0}, out[3 * HUB_RECORD];
     struct hub_loaded l = hub_load((const uint8_t *)TEXT, sizeof TEXT - 2);
     struct hub_audited a;
+    struct hub_checked c;
     struct hub_slot s;
 
     expect(l.number == 15 && l.line == 11, "hub_loaded: number and line");
@@ -82,6 +83,14 @@ int main(void) {
     expect(a.number == 12 && a.len == 0, "hub_audit: the list's length");
     a = hub_audit(t, 0, list, sizeof list, out, HUB_RECORD - 1);
     expect(a.number == 13 && a.len == 0, "hub_audit: the buffer's length");
+
+    c = hub_check(t, 0x9000);
+    expect(c.number == 0 && c.keeps && c.counted == 2, "hub_check: no group is broken");
+    c = hub_check(t, 0xd000);
+    expect(c.number == 0 && !c.keeps && c.counted == 2, "hub_check: the second group is broken");
+    t.count = HUB_GROUPS + 1;
+    c = hub_check(t, 0);
+    expect(c.number == 99 && !c.keeps && c.counted == 0, "hub_check: a table that lacks the form");
     t = hub_empty();
     expect(t.slots[0].kind == HUB_FREE && t.count == 0 && t.content[0] == 0, "hub_empty");
     return failed;

@@ -29,6 +29,7 @@ static struct hub_table table;
 static struct hub_reply reply;
 static struct hub_loaded loaded;
 static struct hub_audited audited;
+static struct hub_checked checked;
 static uint8_t bytes[256 * HUB_RECORD], room[256 * HUB_RECORD];
 static uint8_t stack[STACK] __attribute__((aligned(4096)));
 static uint8_t *frame;
@@ -53,6 +54,7 @@ CALLED(call_create, reply = hub_create(table, 0, 31, HUB_ITEM))
 CALLED(call_release, reply = hub_release(table, 0, 1))
 CALLED(call_hand, reply = hub_hand(table, 0, 0, HUB_ADD_SECRECY, 5))
 CALLED(call_audit, audited = hub_audit(table, 0, bytes, sizeof bytes, room, sizeof room))
+CALLED(call_check, checked = hub_check(table, 0x21))
 
 static const struct {
     const char *name;
@@ -61,6 +63,7 @@ static const struct {
     {"hub_empty", call_empty}, {"hub_load", call_load},     {"hub_put", call_put},         {"hub_show", call_show},
     {"hub_send", call_send},   {"hub_fetch", call_fetch},   {"hub_add", call_add},         {"hub_drop", call_drop},
     {"hub_hand", call_hand},   {"hub_create", call_create}, {"hub_release", call_release}, {"hub_audit", call_audit},
+    {"hub_check", call_check},
 };
 
 static size_t needed(void *(*function)(void *)) {
@@ -83,7 +86,7 @@ int main(void) {
         printf("%s %zu\n", calls[n].name, need);
         if (calls[n].function == call_load)
             table = loaded.table;
-        failed += HUB_STACK <= need || loaded.number != 0 || reply.number != 0 || audited.number != 0;
+        failed += HUB_STACK <= need || loaded.number != 0 || reply.number != 0 || audited.number != 0 || checked.number != 0;
     }
     return failed == 0 ? 0 : 1;
 }

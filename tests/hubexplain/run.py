@@ -74,6 +74,11 @@ def files(ending):
                   for name in names if name.endswith(ending))
 
 
+def outputs():
+    """The paths of what hubcalls and hubaudit print: each stands beside its text."""
+    return [path for path in files('.out') if os.path.exists(re.sub(r'(\.[0-9]+)?\.out$', '.txt', path))]
+
+
 # Stored cases.
 
 def cases(path):
@@ -120,7 +125,7 @@ def records_of(path):
 
 def every_record():
     """Every stored output is told, a line for each record, alike in the three forms but for the bytes shown."""
-    for path in files('.out'):
+    for path in outputs():
         records, (status, output, error) = records_of(path), explain(path)
         if records is None:
             yield (status, output) == (1, '') and 'no records: ' in error, f'{path}: {status}\n{output}{error}'
@@ -189,7 +194,7 @@ def edges(output):
 
 def drawn_records():
     """The edges tell just what is in the records' bytes: from whom to whom, calls, numbers and bytes moved."""
-    for path in files('.out'):
+    for path in outputs():
         records = records_of(path)
         if records is not None:
             status, output, error = explain('--graph', path)

@@ -64,6 +64,16 @@ pub struct Audited {
     pub len: usize,
 }
 
+/// What a check of the conflict groups hands back: 0, whether every group is kept to, and the place of the first that is
+/// broken, from 1, or the number of groups where none is; or 99, false and 0.
+#[repr(C)]
+#[derive(Clone, Copy, PartialEq, Eq, Debug)]
+pub struct Checked {
+    pub number: u8,
+    pub keeps: bool,
+    pub counted: usize,
+}
+
 /// What loading hands back: 0, line 0 and the table; or the refusal, its line and an empty table.
 #[repr(C)]
 #[derive(Clone, Copy, PartialEq, Eq, Debug)]
@@ -75,7 +85,7 @@ pub struct Loaded {
 
 // The layout that the archive has.
 const _: () = assert!(size_of::<Slot>() == 64 && size_of::<Table>() == 4168 && size_of::<Reply>() == 4192);
-const _: () = assert!(size_of::<Audited>() == 16 && size_of::<Loaded>() == 4184);
+const _: () = assert!(size_of::<Audited>() == 16 && size_of::<Checked>() == 16 && size_of::<Loaded>() == 4184);
 
 extern "C" {
     fn hub_empty() -> Table;
@@ -97,6 +107,7 @@ extern "C" {
         out: *mut u8,
         room: usize,
     ) -> Audited;
+    fn hub_check(t: Table, held: u64) -> Checked;
 }
 
 // No function asks anything of its numbers and tables. All that makes a call safe is that a slice's pointer is valid for
@@ -149,6 +160,11 @@ impl Table {
 
     pub fn audit(self, caller: u8, list: &[u8], out: &mut [u8]) -> Audited {
         unsafe { hub_audit(self, caller, list.as_ptr(), list.len(), out.as_mut_ptr(), out.len()) }
+    }
+
+    /// `held` is the union of all that somebody holds: S, I and the four rights.
+    pub fn check(self, held: u64) -> Checked {
+        unsafe { hub_check(self, held) }
     }
 }
 

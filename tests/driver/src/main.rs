@@ -78,6 +78,11 @@ impl State {
                 let called = call(self.table, words)?;
                 self.answer_call(&called);
             }
+            ["check", held] => {
+                let checked = self.table.check(set(held)?);
+                let verdict = if checked.keeps { "keeps" } else { "breaks" };
+                self.answer(checked.number, &format!("{verdict}{}", checked.counted), &[], &[]);
+            }
             _ => {
                 let called = call(self.table, &words)?;
                 self.table = called.reply.table;

@@ -14,6 +14,14 @@ fn run(script: &str) -> Output {
     driver.wait_with_output().unwrap()
 }
 
+/// The driver answers the line before, and not the one behind.
+fn is_no_command(line: &str) {
+    let done = run(&format!("send 0 1\n{line}\nsend 0 1\n"));
+    assert_eq!(done.status.code(), Some(2), "{line:?}");
+    assert_eq!(done.stderr, b"line 2 is no command\n", "{line:?}");
+    assert_eq!(done.stdout.iter().filter(|byte| **byte == b'\n').count(), 1, "{line:?}");
+}
+
 #[test]
 fn only_calls_are_previewed() {
     for line in [
@@ -32,10 +40,26 @@ fn only_calls_are_previewed() {
         "preview put 0 0",
         "preview add 0 0 256",
         "previews send 0 1",
+        "preview check 0000000000000003",
     ] {
-        let done = run(&format!("send 0 1\n{line}\nsend 0 1\n"));
-        assert_eq!(done.status.code(), Some(2), "{line:?}");
-        assert_eq!(done.stderr, b"line 2 is no command\n", "{line:?}");
-        assert_eq!(done.stdout.iter().filter(|byte| **byte == b'\n').count(), 1, "{line:?}");
+        is_no_command(line);
+    }
+}
+
+#[test]
+fn a_check_is_of_one_set() {
+    for line in [
+        "check",
+        "check ",
+        "check 3",
+        "check -",
+        "check 000000000000000A",
+        "check 00000000000000003",
+        "check +000000000000003",
+        "check 0000000000000003 0000000000000003",
+        "check  0000000000000003",
+        "checks 0000000000000003",
+    ] {
+        is_no_command(line);
     }
 }

@@ -1,7 +1,7 @@
 //! Structs that no script gives: kinds other than 0, 1 and 2, and lengths and counts of any size. Every call and audit on
-//! one is refused by 99, and hands back the very struct and buffer.
+//! one is refused by 99, and hands back the very struct and buffer; and a check counts no group.
 
-use hub::{load, Reply, Table, ITEM, PROGRAM, SLOTS};
+use hub::{load, Checked, Reply, Table, ITEM, PROGRAM, SLOTS};
 
 const TEXT: &[u8] = b"slot kind sec int sa sd ia id data
 0 prog 1 0 3 3 0 0 a1b2
@@ -46,6 +46,9 @@ fn lacks_the_form(table: Table) {
     let audited = table.audit(0, &[0; 32], &mut buffer);
     assert_eq!((audited.number, audited.len), (99, 0));
     assert_eq!(buffer, [0xee; 64]);
+    for held in [0, 0xc, u64::MAX] {
+        assert_eq!(table.check(held), Checked { number: 99, keeps: false, counted: 0 });
+    }
 }
 
 #[test]
@@ -58,6 +61,10 @@ fn the_text_has_the_form() {
     assert_eq!(buffer[..3], [0xa1, 0xb2, 0xee]);
     let audited = table.audit(0, &[0; 32], &mut buffer);
     assert_eq!((audited.number, audited.len), (0, 32));
+    for held in [0, 0xb] {
+        assert_eq!(table.check(held), Checked { number: 0, keeps: true, counted: 1 });
+    }
+    assert_eq!(table.check(0xc), Checked { number: 0, keeps: false, counted: 1 });
 }
 
 #[test]

@@ -41,10 +41,30 @@ impl Entity {
         union([&self.secrecy, &self.integrity].into_iter().chain(&self.rights))
     }
 
-    /// An entity keeps to a group when its tags have at most one in common with it.
-    pub fn keeps_to(&self, group: &Tags) -> bool {
-        self.tags().intersection(group).count() <= 1
+    /// The entity keeps to every one of the groups.
+    pub fn keeps_to(&self, groups: &[Tags]) -> bool {
+        check(groups, &self.tags()).keeps
     }
+}
+
+/// What a check of the groups tells.
+#[derive(Clone, Copy, PartialEq, Eq, Debug)]
+pub struct Checked {
+    /// No group is broken.
+    pub keeps: bool,
+    /// The place of the first broken group, from 1; the number of groups if there is none.
+    pub counted: usize,
+}
+
+/// Checks the groups for the union of all that somebody holds.
+pub fn check(groups: &[Tags], held: &Tags) -> Checked {
+    let broken = groups.iter().position(|group| breaks(held, group));
+    Checked { keeps: broken.is_none(), counted: broken.map_or(groups.len(), |at| at + 1) }
+}
+
+/// A group is broken when more than one of its tags is held.
+fn breaks(held: &Tags, group: &Tags) -> bool {
+    held.intersection(group).count() > 1
 }
 
 /// Flow from A to B is allowed when S(A) is a subset of S(B) and I(B) is a
@@ -81,7 +101,7 @@ impl Hub {
     }
 
     pub fn keeps_to_every_group(&self, entity: &Entity) -> bool {
-        self.groups.iter().all(|group| entity.keeps_to(group))
+        entity.keeps_to(&self.groups)
     }
 
     /// Every entity keeps to every group.

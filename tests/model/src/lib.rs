@@ -3,7 +3,7 @@
 //! Sets of tags are `BTreeSet<u8>`, contents are `Vec<u8>`, a slot is an
 //! `Option<Entity>`. Each rule of the paper stands in one place:
 //!
-//! - `hub`: the table, flow and conflict groups
+//! - `hub`: the table, flow, conflict groups and the check of them
 //! - `call`: the nine calls and the fields they use
 //! - `refusal`: when a call is turned down
 //! - `effect`: what an allowed call does, and previews

@@ -3,7 +3,7 @@
 use crate::audit::Audit;
 use crate::call::Call;
 use crate::effect::Answer;
-use crate::hub::{Entity, Hub, Kind, MOST_CONTENT, MOST_GROUPS, SLOTS};
+use crate::hub::{check, Checked, Entity, Hub, Kind, MOST_CONTENT, MOST_GROUPS, SLOTS};
 use crate::record::record;
 use crate::tags::{from_word, to_word, Tags};
 
@@ -141,6 +141,14 @@ impl Table {
     /// What a call would answer, 99 included.
     pub fn preview(&self, call: &Call) -> Answer {
         self.call(call).1
+    }
+
+    /// A check of the groups: its number and what it tells. Under 99 no group is looked at.
+    pub fn check(&self, held: u64) -> (u8, Checked) {
+        if self.lacks_form() {
+            return (99, Checked { keeps: false, counted: 0 });
+        }
+        (0, check(&self.to_hub().groups, &from_word(held)))
     }
 
     /// Runs one audit; 99 comes before all other refusals.

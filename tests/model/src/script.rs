@@ -1,4 +1,4 @@
-//! Scripts of raw tables, calls, previews and audits; SCRIPT.md has the format.
+//! Scripts of raw tables, calls, previews, checks and audits; SCRIPT.md has the format.
 
 use crate::call::Call;
 use crate::effect::Answer;
@@ -66,6 +66,11 @@ impl State {
             ["preview", words @ ..] => {
                 let answer = table.preview(&call(words)?);
                 called_line(&answer, table)
+            }
+            ["check", held] => {
+                let (number, checked) = table.check(word(held)?);
+                let verdict = if checked.keeps { "keeps" } else { "breaks" };
+                answer_line(number, &format!("{verdict}{}", checked.counted), &[], &[], table)
             }
             _ => {
                 let (next, answer) = table.call(&call(words)?);

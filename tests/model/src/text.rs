@@ -61,7 +61,7 @@ fn slot_named_twice(form: &Form) -> Option<usize> {
 
 /// The line of the first entity that breaks a group.
 fn breaking_entity(form: &Form) -> Option<usize> {
-    let breaks = |row: &&EntityRow| !form.groups.iter().all(|group| row.entity.keeps_to(group));
+    let breaks = |row: &&EntityRow| !row.entity.keeps_to(&form.groups);
     form.entities.iter().find(breaks).map(|row| row.line)
 }
 

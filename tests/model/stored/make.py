@@ -14,6 +14,7 @@ import sys
 
 HERE = os.path.dirname(os.path.abspath(__file__))
 sys.path.insert(0, os.path.dirname(os.path.dirname(HERE)))
+import checks
 import items
 import previews
 from records import near
@@ -138,6 +139,13 @@ def main():
     for name, numbers in previews.numbers().items():
         told = [int(line.split()[0]) for line in read(folder, name + ".sout").splitlines()[:len(numbers)]]
         assert told == numbers, f"previews of {name} return {told} and not {numbers}"
+    folder = fresh("checks")
+    write_scripts(folder, checks.scripts())
+    answer(folder)
+    for name, starts in checks.starts().items():
+        lines = read(folder, name + ".sout").decode().splitlines()
+        wrong = [both for both in zip(starts, lines, strict=True) if not both[1].startswith(both[0])]
+        assert not wrong, f"checks in {name} answer otherwise: {wrong}"
     folder = fresh("tally")
     for name, content in lists():
         write(folder, name + ".records", content)

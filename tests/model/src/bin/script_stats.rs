@@ -1,8 +1,8 @@
 //! script_stats DIRECTORY
 //!
 //! Counts what the scripts (*.script) of a directory reach: numbers by command, what stands in
-//! the callers' slots, ways to lack the form, lengths of buffers, kinds of lists, and previews
-//! that their calls follow.
+//! the callers' slots, ways to lack the form, lengths of buffers, kinds of lists, previews that
+//! their calls follow, and what checks tell.
 
 use std::collections::BTreeMap;
 use std::{env, fs};
@@ -58,7 +58,7 @@ fn count_line(counts: &mut Counts, state: &mut State, line: &str) {
     }
     if command != "load" {
         for way in lacks(&table) {
-            let who = if ["audit", "dump"].contains(&command) { command } else { "call" };
+            let who = if ["audit", "check", "dump"].contains(&command) { command } else { "call" };
             count(format!("lacks the form, {way}: {who}{how}"));
         }
     }
@@ -69,6 +69,9 @@ fn count_line(counts: &mut Counts, state: &mut State, line: &str) {
     let number: u8 = answer[0].parse().expect("a number");
     count(format!("number {number:02}"));
     count(format!("number {number:02} of {command}{how}"));
+    if command == "check" {
+        return count(format!("check: {}", answer[1]));
+    }
     if !["audit", "load"].contains(&command) {
         let caller = caller_words(&table, words[1].parse().expect("a slot"));
         let number = if number == 99 { "99" } else { "00 to 11" };

@@ -1,4 +1,4 @@
-//! Scripts of scenes: each gives a table and runs calls, previews, audits or loads on it.
+//! Scripts of scenes: each gives a table and runs calls, previews, checks, audits or loads on it.
 
 use super::damage::{catalogue, Case, Class};
 use super::draft::round_draft;
@@ -10,13 +10,14 @@ use crate::hub::{Entity, Hub, Kind, MOST_CONTENT, MOST_GROUPS, SLOTS};
 use crate::raw::{RawEntity, RawKind, Table};
 use crate::record::LENGTH;
 use crate::script::State;
-use crate::tags::to_word;
+use crate::tags::{from_word, to_word, Tags, LAST_TAG};
 
 /// A script of `count` scenes with a dump at its end.
 pub fn script(seed: u64, count: usize) -> String {
     let cases = catalogue();
     let previews = Rng::for_case(seed, u64::MAX);
-    let mut script = Script { lines: String::new(), state: State::start(), previews };
+    let checks = Rng::for_case(seed, u64::MAX - 1);
+    let mut script = Script { lines: String::new(), state: State::start(), previews, checks };
     for index in 0..count {
         let rng = &mut Rng::for_case(seed, index as u64);
         let turn = seed as usize + index;
@@ -42,6 +43,8 @@ struct Script {
     state: State,
     /// Draws the previews and nothing else, so that the other lines do not depend on them.
     previews: Rng,
+    /// The same for the checks.
+    checks: Rng,
 }
 
 impl Script {
@@ -52,8 +55,13 @@ impl Script {
         self.lines.push_str(lines);
     }
 
-    /// A call, at times after a preview of it, or of another one that suits the hub.
+    /// A call, at times after a check, or after a preview of it or of another one that suits the
+    /// hub.
     fn call(&mut self, hub: &Hub, pool: &[u8], call: &Call) {
+        if self.checks.chance(25) {
+            let held = held(&mut self.checks, hub, pool, call);
+            self.push(&check_line(&held));
+        }
         if self.previews.chance(20) {
             let other = unbound_call(&mut self.previews, hub, pool);
             self.push(&preview_line(&other));
@@ -132,6 +140,10 @@ pub fn preview_line(call: &Call) -> String {
     format!("preview {}", call_line(call))
 }
 
+fn check_line(held: &Tags) -> String {
+    format!("check {:016x}\n", to_word(held))
+}
+
 /// What stands in a caller's slot, for counts of what input reaches.
 pub fn caller_words(table: &Table, caller: u8) -> &'static str {
     match table.entities.get(caller as usize) {
@@ -173,6 +185,27 @@ fn unbound_call(rng: &mut Rng, hub: &Hub, pool: &[u8]) -> Call {
         _ => {}
     }
     call
+}
+
+/// What to check before a call: all that its other or some entity holds, some tags of a group, or
+/// any tags; at times with the tag of the call or another one.
+fn held(rng: &mut Rng, hub: &Hub, pool: &[u8], call: &Call) -> Tags {
+    let other = call.other.and_then(|slot| hub.entity(slot));
+    let entities: Vec<&Entity> = hub.slots.iter().flatten().collect();
+    let mut held = match (rng.below(10), other) {
+        (0..=4, Some(other)) => other.tags(),
+        (0..=5, _) if !entities.is_empty() => rng.pick(&entities).tags(),
+        (6..=7, _) if !hub.groups.is_empty() => {
+            rng.pick(&hub.groups).into_iter().filter(|_| rng.chance(70)).collect()
+        }
+        (8, _) => from_word(rng.next() & rng.next()),
+        _ => from_word(rng.pick(&[0, 0, u64::MAX])),
+    };
+    if rng.chance(60) {
+        let tag = call.tag.filter(|tag| *tag <= LAST_TAG);
+        held.insert(tag.unwrap_or_else(|| rng.pick(pool)));
+    }
+    held
 }
 
 /// Makes such a call.
