@@ -7,7 +7,7 @@
  * The archive is for x86-64 Linux. It needs memcpy, memmove and memset of the C library and nothing else: it has no
  * state of its own, takes no memory from a heap and calls nothing back. Calls may run at the same time.
  *
- * The table is a plain struct that the caller owns. Every function takes it by value and hands the next one back by
+ * The table is a plain struct that the caller owns. Every function takes it by value, and a call hands the next one back by
  * value, so that no table is changed behind a pointer. To keep one in place:
  *
  *     struct hub_loaded l = hub_load(text, length);
@@ -128,9 +128,9 @@ struct hub_audited {
 };
 
 /*
- * What a check of the groups hands back: 0, whether each group is kept, and how many groups were counted: all of them where none
- * is broken, else the place of the first that is, from 1. Or 99, false and 0. So look at the number first: where it is 0 and
- * `keeps` is false, the first broken group is t.groups[counted - 1].
+ * What a check hands back. `number` is 0, also where a group is broken, or 99 where the table lacks the form. Under 0,
+ * `keeps` says whether no group is broken, and `counted` how many were counted: all of them, or up to the first that is
+ * broken, which is then t.groups[counted - 1]. Under 99 `keeps` is false and `counted` 0: look at the number first.
  */
 struct hub_checked {
     uint8_t number;
@@ -220,17 +220,19 @@ struct hub_audited hub_audit(struct hub_table t, uint8_t caller, const uint8_t *
                              uint8_t *out, size_t room);
 
 /*
- * A check of the conflict groups for the tags of `held`: whether it has at most one tag in common with each, and if not, the first
- * with which it has more; behind that one others may be broken too. Of an entity, `held` is the union of its six sets. With the
- * tag n of a hand to slot k, n at most 63 and k at most 31, it is what hub_hand asks behind all its other refusals, whichever right
- * is handed. So it says the first group that stands in the way where hub_hand returns 11:
+ * A check of the conflict groups: whether `held` has at most one tag in common with each of them; if not, which is the
+ * first with which it has more. Later ones may be broken too. Of an entity, `held` is the union of its six sets.
+ *
+ * To see why hub_hand returned 11, check what the receiver in slot k would hold, with the tag n that was handed. Which
+ * of the four rights it was makes no difference:
  *
  *     const struct hub_slot *s = &t.slots[k];
  *     uint64_t held = s->sec | s->integ | s->sa | s->sd | s->ia | s->id;
  *     struct hub_checked c = hub_check(t, held | (uint64_t)1 << n);
+ *     if (c.number == 0 && !c.keeps) ..                // t.groups[c.counted - 1] stands in the way
  *
- * It is no call: nobody is asked for as its caller, and it makes no record. It reads the groups, and of all else in the table only
- * whether that has the form.
+ * A check is no call: it has no caller and makes no record. Of the table it reads the groups, and otherwise only whether
+ * it has the form.
  */
 struct hub_checked hub_check(struct hub_table t, uint64_t held);
 

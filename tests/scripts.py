@@ -1,5 +1,5 @@
-"""What a program answers to a script (model/SCRIPT.md), and whether its answers to previews and checks agree with its other
-answers. That needs no answer of the model."""
+"""What a program answers to a script (model/SCRIPT.md), whether its previews agree with its calls, and that neither they nor
+checks change anything. That needs no answer of the model."""
 import re
 
 import streams

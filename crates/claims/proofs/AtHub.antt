@@ -17,7 +17,7 @@ use Rattle.rules.proofs.ByNumber.{list_by_number, struck_by_number, need_by_numb
 use Rattle.rules.proofs.Effects.{calls_leave, rights_needed}
 use Rattle.rules.proofs.Audits.{audit-by-number, runs_audited}
 use Rattle.label.proofs.Words.{words_order, words_tag}
-use Rattle.groups.proofs.Alike.{checks_alike}
+use Rattle.groups.proofs.Alike.{tables_checked}
 use Rattle.monitor.specs.declared.Table.{Table}
 use Rattle.monitor.specs.Table.{hub}
 use Rattle.monitor.specs.Calls.{reply, shown_part, shown_buffer, buffer_after, audited, audit_done}
@@ -71,7 +71,7 @@ at_hub = record {
   struck = struck_by_number hub;
   audits = audit-by-number hub;
   runs_audited = runs_audited words_order hub;
-  checks = checks_alike words_order hub hub_laws;
+  checks = tables_checked words_order hub hub_laws;
 }
 
 pub performs_named : PerformsNamed

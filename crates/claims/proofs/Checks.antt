@@ -62,9 +62,6 @@ module _ (t : Table) (l : Label) (eight : length t.groups ≡ 8) (few : t.count 
 pub checks_spelt : ChecksSpelt
 checks_spelt = record {
   answered = λ t l f. rw (form_spelt.enough t f);
-  refused = λ t l r e. either (formed t)
-      (λ f. let d = rw f at e in absurd (no_answer r (checked words (groups_of t) l) d))
-      (λ f. let d : ◌≡◌ {A = Result Checked Refusal} (Err Formless) (Err r) = rw f at e in (cc, f));
   says = λ t l c n e. either (formed t)
       (λ f. let d = rw f at e in let q : checked words (groups_of t) l ≡ c = cc in subst (λ x. Says t l x) q (spelt t l n (form_spelt.holds t f).groups))
       (λ f. let d = rw f at e in absurd (no_answer Formless c (sym d)));

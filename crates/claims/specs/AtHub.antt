@@ -15,7 +15,7 @@ use Rattle.rules.specs.Effects.{CallsLeave, RightsNeeded}
 use Rattle.rules.specs.Audits.{AuditByNumber, RunsAudited}
 use Rattle.label.specs.Calls.{call_with}
 use Rattle.label.specs.Words.{words}
-use Rattle.groups.specs.Claims.{ChecksAlike}
+use Rattle.groups.specs.Claims.{TablesChecked}
 use Rattle.records.specs.Record.{fields_as, fields_given}
 use Rattle.monitor.specs.declared.Table.{Table}
 use Rattle.monitor.specs.Table.{hub}
@@ -55,7 +55,7 @@ pub record CallsNamed (bs buf : List ℕ) : Type 0 where
 abbrev pub PerformsNamed : Type 0
 PerformsNamed = (bs buf : List ℕ) → CallsNamed bs buf
 
--- the three demands, for every table of the hub and every tag; and the second reading of each rule
+-- the three demands, for every table of the hub and every tag; the second reading of each rule; and what a check of the groups answers
 pub record AtHub : Type 0 where
   pub refusals : RefusalsMoveNothing hub
   pub refused_audits : RefusedAuditsMoveNothing hub
@@ -76,4 +76,4 @@ pub record AtHub : Type 0 where
   pub struck : StruckByNumber hub
   pub audits : AuditByNumber hub
   pub runs_audited : RunsAudited hub
-  pub checks : ChecksAlike hub
+  pub checks : TablesChecked hub

@@ -1,8 +1,7 @@
 -- Document 02, change 4: what a check of the conflict groups says, over the fields of the struct that runs; and that it is what a hand asks.
 -- Assumes nothing.
 use Rattle.std.specs.Prelude.{◌≡◌, true, false, ℕ, ◌-◌, ◌≤◌, ◌<◌, length, get_or, Ok, Err}
-use Rattle.rules.specs.declared.Refusal.{Refusal}
-use Rattle.rules.specs.declared.Refusal.TheVariants.{BreaksGroup, Formless}
+use Rattle.rules.specs.declared.Refusal.TheVariants.{BreaksGroup}
 use Rattle.rules.specs.Table.{held}
 use Rattle.rules.specs.Calls.{hand}
 use Rattle.rules.specs.Refusals.{verdict}
@@ -13,7 +12,7 @@ use Rattle.entity.specs.Entity.{bare}
 use Rattle.groups.specs.declared.Checked.{Checked}
 use Rattle.groups.specs.Check.{counted, checked, check_at}
 use Rattle.monitor.specs.declared.Table.{Table}
-use Rattle.monitor.specs.Table.{formed, groups_of, hub}
+use Rattle.monitor.specs.Table.{groups_of, hub}
 use Rattle.claims.specs.InForm.{stands_in, InForm}
 
 -- The n-th group, from 1, is the first of which a label has more than one tag
@@ -30,10 +29,9 @@ pub record Says (t : Table) (l : Label) (c : Checked) : Type 0 where
   pub all : c.keeps ≡ true → c.counted ≡ t.count
   pub first : c.keeps ≡ false → FirstOver t l c.counted
 
--- A table in form has an answer, any other 99. (The array of groups of a table that runs always has eight places.)
+-- A table in form has an answer, and what it says. (The array of groups of a table that runs always has eight places.)
 pub record ChecksSpelt : Type 0 where
   pub answered : (t : Table) (l : Label) → InForm t → check_at hub t l ≡ Ok (checked words (groups_of t) l)
-  pub refused : (t : Table) (l : Label) (r : Refusal) → check_at hub t l ≡ Err r → (r ≡ Formless) × (formed t ≡ false)
   pub says : (t : Table) (l : Label) (c : Checked) → length t.groups ≡ 8 → check_at hub t l ≡ Ok c → Says t l c
 
 -- all that an entity has, its six sets together, and a tag

@@ -1,4 +1,4 @@
--- A check is the same at every table of a run.
+-- The check of a table, the same at every table of a run.
 -- Assumes nothing.
 use mathlib.Core.Path.{◌≡◌, refl, sym, ap, ◌∙◌}
 use mathlib.Core.Bool.{Bool, true, false}
@@ -11,7 +11,7 @@ use Rattle.rules.specs.Runs.{final, Event, call, preview, next}
 use Rattle.rules.specs.Laws.{OrderLaws, TableLaws}
 use Rattle.rules.proofs.Steps.{step_formed, step_groups}
 use Rattle.groups.specs.Check.{check_at}
-use Rattle.groups.specs.Claims.{ChecksAlike}
+use Rattle.groups.specs.Claims.{TablesChecked}
 
 reads : {A : Labels} (T : Tables A) (t u : T.Table) (l : A.Label) → T.formed t ≡ T.formed u → T.groups t ≡ T.groups u → check_at T t l ≡ check_at T u l
 reads T t u l f g = rw (f, g)
@@ -29,5 +29,5 @@ module _ {A : Labels} (O : OrderLaws A) (T : Tables A) (L : TableLaws T) where
   stays t (call c ∷ es) l = stays (step T t c) es l ∙ after t c l
   stays t (preview c ∷ es) l = stays t es l
 
-pub checks_alike : {A : Labels} → OrderLaws A → (T : Tables A) → TableLaws T → ChecksAlike T
-checks_alike O T L = record { reads = reads T; stays = stays O T L }
+pub tables_checked : {A : Labels} → OrderLaws A → (T : Tables A) → TableLaws T → TablesChecked T
+tables_checked O T L = record { formless = λ t l f. rw f; in_form = λ t l f. rw f; reads = reads T; stays = stays O T L }

@@ -1,4 +1,4 @@
--- Document 02, change 4: the check of the conflict groups ends at the first that is broken.
+-- Document 02, change 4: what a check of the conflict groups answers, and how many it counts up to the first that is broken.
 -- Assumes nothing.
 use Rattle.std.specs.Prelude.{ℕ, suc, cond, List, [], ◌∷◌, Result, Ok, Err}
 use Rattle.rules.specs.declared.Refusal.{Refusal}
@@ -12,7 +12,7 @@ abbrev pub counted : (A : Labels) → List A.Group → A.Label → ℕ
 counted A [] l = 0
 counted A (g ∷ gs) l = suc (cond (A.keeps g l) (counted A gs l) 0)
 
--- the rules' verdict for who has all of a label, and beside it that number
+-- the rules' verdict for who holds a label's tags, and beside it that number
 abbrev pub checked : (A : Labels) → List A.Group → A.Label → Checked
 checked A gs l = record { keeps = keeps_each A gs l; counted = counted A gs l }
 

@@ -1,4 +1,4 @@
-// The check of the conflict groups: whether who has all of a label keeps to each of them, and at which the check ended.
+// The check of the conflict groups: whether who holds a label's tags keeps to each of them, and at which the check ended.
 #![tactic(auto)]
 
 ghost use Rattle.std.specs.Prelude.{◌≡◌, take};
@@ -15,7 +15,7 @@ pub struct Checked {
     pub counted: usize,
 }
 
-// The check of the first `count` groups, of all where there are fewer, for who has all of the label `held`. It ends at the first that is
+// The check of the first `count` groups, of all where there are fewer, for who holds the tags of `held`. It ends at the first that is
 // broken.
 pub fn check(groups: &[Label], count: usize, held: Label) -> Checked
     ensures { result ≡ checked words (take count groups.now) held }

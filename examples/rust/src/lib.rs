@@ -64,7 +64,7 @@ pub struct Audited {
     pub len: usize,
 }
 
-/// What a check of the conflict groups hands back: 0, whether every group is kept to, and the place of the first that is
+/// What a check of the conflict groups hands back: 0, whether every group is kept, and the place of the first that is
 /// broken, from 1, or the number of groups where none is; or 99, false and 0.
 #[repr(C)]
 #[derive(Clone, Copy, PartialEq, Eq, Debug)]
@@ -162,7 +162,8 @@ impl Table {
         unsafe { hub_audit(self, caller, list.as_ptr(), list.len(), out.as_mut_ptr(), out.len()) }
     }
 
-    /// `held` is the union of all that somebody holds: S, I and the four rights.
+    /// Whether `held` keeps to every conflict group, and which is the first broken. Of an entity it is the union of S, I and
+    /// the four rights; with a tag more, what a hand of that tag asks.
     pub fn check(self, held: u64) -> Checked {
         unsafe { hub_check(self, held) }
     }

@@ -101,7 +101,7 @@ fn a_hand_is_refused_by_11_where_the_check_of_the_union_breaks() {
 }
 
 #[test]
-fn generated_scripts_check_all_counts_of_groups() {
+fn generated_scripts_reach_checks_of_each_kind() {
     let mut counts: BTreeMap<String, usize> = BTreeMap::new();
     for seed in 0..120 {
         let mut state = State::start();

@@ -1,4 +1,4 @@
-use Rattle.std.proofs.Common.{◌≡◌, refl, sym, ap, ◌∙◌, ◌+◌, ◌<◌, ℕ, List, ◌∷◌, true, false, arith, length, slice_index_or, drop}
+use Rattle.std.proofs.Common.{◌≡◌, refl, sym, ap, ◌∙◌, ◌+◌, ◌<◌, ℕ, List, ◌∷◌, true, false, arith, length, slice_index_or, take, drop}
 use Rattle.std.proofs.lemmas.List.{at_drop_more, at_drop_all}
 use lib.ListN.{length-take}
 use Rattle.label.specs.declared.Label.{Label}
@@ -29,10 +29,11 @@ pub returns-then-not-keeps : goal.returns-then-not-keeps
 unfolding empty
 returns-then-not-keeps c =
     let gs = c.front-group-items.result.now in let l = c.loop-group in
+    let e : gs ≡ take c.args.count c.args.groups.now = c.front-group-items.ensures.0 in
     let b : words.keeps (slice_index_or gs l.group-index empty) c.args.held ≡ false = sym c.keeps.ensures ∙ c.if-not-keeps.true in
     let k = rw b at (kept_from c.args.held gs l.group-index c.loop-group-test.true) in
     let n = rw b at (counted_from c.args.held gs l.group-index c.loop-group-test.true) in
-    rw (← c.front-group-items.ensures.0) (λ i. record { keeps = (sym k ∙ l.invariant.kept) i; counted = (ap (λ m. l.counted + m) (sym n) ∙ l.invariant.count) i })
+    rw (← e) (λ i. record { keeps = (sym k ∙ l.invariant.kept) i; counted = (ap (λ m. l.counted + m) (sym n) ∙ l.invariant.count) i })
 
 pub loop-group-preserved : goal.loop-group-preserved
 unfolding empty
@@ -46,7 +47,8 @@ loop-group-preserved c =
 pub returns : goal.returns
 returns c =
     let gs = c.front-group-items.result.now in let l = c.loop-group in
+    let e : gs ≡ take c.args.count c.args.groups.now = c.front-group-items.ensures.0 in
     let k = at_drop_all (λ x. keeps_each words x c.args.held) gs l.group-index c.loop-group-test.false in
     let n = at_drop_all (λ x. counted words x c.args.held) gs l.group-index c.loop-group-test.false in
     let m : l.counted ≡ counted words gs c.args.held = omega (arith, n, l.invariant.count) in
-    rw (← c.front-group-items.ensures.0) (λ i. record { keeps = (sym k ∙ l.invariant.kept) i; counted = m i })
+    rw (← e) (λ i. record { keeps = (sym k ∙ l.invariant.kept) i; counted = m i })
