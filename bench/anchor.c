@@ -26,6 +26,7 @@ struct table {
     struct entity entity[SLOTS];
     uint8_t content[SLOTS * CONTENT];
     uint64_t group[GROUPS];
+    uint8_t most[GROUPS]; /* the most tags of a group that an entity may have */
     size_t count;
 };
 
@@ -71,6 +72,9 @@ static bool formed(const struct table *t)
 {
     if (t->count > GROUPS)
         return false;
+    for (size_t g = 0; g < t->count; g++)
+        if (t->most[g] < 1 || t->most[g] > TAGS)
+            return false;
     for (int k = 0; k < SLOTS; k++) {
         const struct entity *e = &t->entity[k];
         if (e->len > CONTENT)
@@ -89,7 +93,7 @@ static bool keeps(const struct table *t, const struct entity *e)
 {
     uint64_t held = e->sec | e->integ | rights(e);
     for (size_t g = 0; g < t->count; g++)
-        if (__builtin_popcountll(held & t->group[g]) > 1)
+        if (__builtin_popcountll(held & t->group[g]) > t->most[g])
             return false;
     return true;
 }
@@ -375,6 +379,16 @@ static bool entity_row(struct span l, const uint8_t *place, uint8_t *slot, struc
     return n >= 0;
 }
 
+/* A group; without the second name its number is 1. */
+static bool group_row(struct span l, const uint8_t *place, bool numbered, uint64_t *group, uint8_t *most)
+{
+    struct span f[2];
+    *most = 1;
+    if (!split(l, f, numbered ? 2 : 1) || !tag_set(f[place[0]], group))
+        return false;
+    return !numbered || (decimal(f[place[1]], TAGS, most) && *most >= 1);
+}
+
 /* The calls by their kinds, and which fields each uses. */
 static const struct {
     const char *name;
@@ -432,7 +446,7 @@ struct round {
 static int fill(struct rest r, struct round *to, unsigned *line)
 {
     static const char *const entities[] = { "slot", "kind", "sec", "int", "sa", "sd", "ia", "id", "data" };
-    static const char *const groups[] = { "tags" };
+    static const char *const groups[] = { "tags", "most" };
     static const char *const calls[] = { "call", "caller", "other", "set", "tag", "data" };
     struct table *t = &to->table;
     struct span l;
@@ -460,14 +474,19 @@ static int fill(struct rest r, struct round *to, unsigned *line)
             slot[seen++] = k;
         }
     }
-    if (!names(&r, groups, 1, place))
-        goto bad;
+    struct rest there = r;
+    bool numbered = names(&r, groups, 2, place);
+    if (!numbered) {
+        r = there;
+        if (!names(&r, groups, 1, place))
+            goto bad;
+    }
     for (;;) {
         if (!next_line(&r, &l))
             goto bad;
         if (l.at == l.end)
             break;
-        if (t->count == GROUPS || !tag_set(l, &t->group[t->count]))
+        if (t->count == GROUPS || !group_row(l, place, numbered, &t->group[t->count], &t->most[t->count]))
             goto bad;
         t->count++;
     }
@@ -493,17 +512,23 @@ bad:
     return 15;
 }
 
+static void clear(struct table *t)
+{
+    memset(t, 0, sizeof *t);
+    memset(t->most, 1, sizeof t->most);
+}
+
 /* Loads a text. Refused, the table is empty. */
 static int load(const uint8_t *text, size_t n, struct round *to, unsigned *line)
 {
     int refused = 14;
     *line = 0;
     to->calls = 0;
-    memset(&to->table, 0, sizeof to->table);
+    clear(&to->table);
     if (n <= LONGEST)
         refused = fill((struct rest){ text, text + n, 0 }, to, line);
     if (refused)
-        memset(&to->table, 0, sizeof to->table);
+        clear(&to->table);
     return refused;
 }
 

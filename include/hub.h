@@ -32,7 +32,7 @@
  * empty list shows nothing, and an empty text is refused by 15 at line 1.
  *
  * Stack. A call needs less than HUB_STACK bytes below the frame of the function that makes it, the table that is passed
- * and the reply included; the deepest takes 27,960. tests/c/stack.c measures it: each function is called on a painted
+ * and the reply included; the deepest takes 28,040. tests/c/stack.c measures it: each function is called on a painted
  * stack, and the deepest byte that was written counts.
  *
  * What is proved: on every table and all bytes each function returns exactly what the rules say of the table that the
@@ -85,18 +85,20 @@ struct hub_slot {
 
 /*
  * The table. Slot n has the content bytes 64 n to 64 n + 63: its content in front, zeros behind. The first `count` of
- * the groups are conflict groups, sets of tags of which nobody may combine two.
+ * the groups are conflict groups: of the tags of groups[i] nobody may combine more than most[i], a number from 1 to 64.
  *
- * hub_empty and hub_load make tables. One that is filled by hand has the form where kinds are 0 to 2, lengths at most
- * 64, the bytes beyond a length zero, items without rights, free slots without tags, rights and content, and the count
- * at most 8; calls, audits and checks on another are refused by 99. A loaded table also has every entity keep to every group
- * (the union of its six sets has at most one tag in common with it), and calls keep it so; who fills a table by
- * hand sees to that.
+ * hub_empty and hub_load make tables, in which the groups beyond the count have no tags and the number 1. One that is filled
+ * by hand has the form where kinds are 0 to 2, lengths at most 64, the bytes beyond a length zero, items without rights,
+ * free slots without tags, rights and content, the count at most 8, and most[i] from 1 to 64 for each i below the count;
+ * calls, audits and checks on another are refused by 99. So a table of zeros has the form while it has no groups: set
+ * most[i] with groups[i]. A loaded table also has every entity keep to every group (the union of its six sets has at
+ * most most[i] tags in common with groups[i]), and calls keep it so; who fills a table by hand sees to that.
  */
 struct hub_table {
     struct hub_slot slots[HUB_SLOTS];
     uint8_t content[HUB_SLOTS * HUB_CONTENT];
     uint64_t groups[HUB_GROUPS];
+    uint8_t most[HUB_GROUPS];
     size_t count;
 };
 
@@ -147,11 +149,11 @@ struct hub_loaded {
 
 /* The archive's layout: a compiler with another one refuses this file. */
 typedef char hub_slot_has_64_bytes[sizeof(struct hub_slot) == 64 ? 1 : -1];
-typedef char hub_table_has_4168_bytes[sizeof(struct hub_table) == 4168 ? 1 : -1];
-typedef char hub_reply_has_4192_bytes[sizeof(struct hub_reply) == 4192 ? 1 : -1];
+typedef char hub_table_has_4176_bytes[sizeof(struct hub_table) == 4176 ? 1 : -1];
+typedef char hub_reply_has_4200_bytes[sizeof(struct hub_reply) == 4200 ? 1 : -1];
 typedef char hub_audited_has_16_bytes[sizeof(struct hub_audited) == 16 ? 1 : -1];
 typedef char hub_checked_has_16_bytes[sizeof(struct hub_checked) == 16 ? 1 : -1];
-typedef char hub_loaded_has_4184_bytes[sizeof(struct hub_loaded) == 4184 ? 1 : -1];
+typedef char hub_loaded_has_4192_bytes[sizeof(struct hub_loaded) == 4192 ? 1 : -1];
 
 /* A table of free slots, without groups. */
 struct hub_table hub_empty(void);
@@ -220,8 +222,8 @@ struct hub_audited hub_audit(struct hub_table t, uint8_t caller, const uint8_t *
                              uint8_t *out, size_t room);
 
 /*
- * A check of the conflict groups: whether `held` has at most one tag in common with each of them; if not, which is the
- * first with which it has more. Later ones may be broken too. Of an entity, `held` is the union of its six sets.
+ * A check of the conflict groups: whether `held` has at most most[i] tags in common with groups[i], for each i below the
+ * count; if not, which is the first with which it has more. Later ones may be broken too. Of an entity, `held` is the union of its six sets.
  *
  * To see why hub_hand returned 11, check what the receiver in slot k would hold, with the tag n that was handed. Which
  * of the four rights it was makes no difference:

@@ -4,11 +4,11 @@ import re
 
 import streams
 
-SILENT = ('table', 'slot', 'bytes', 'groups')
+SILENT = ('table', 'slot', 'bytes', 'groups', 'most')
 PREVIEW = 'preview '
 ASKING = (PREVIEW, 'check ')  # commands that begin so change nothing
 SLOTS, ENTITY, AREA = 32, 57, 64
-DUMP = '[0-9a-f]{%d}' % (2 * (SLOTS * (ENTITY + AREA) + 8 + 8 * 8))
+DUMP = '[0-9a-f]{%d}' % (2 * (SLOTS * (ENTITY + AREA) + 8 + 8 * 8 + 8))
 TOLD = {'load': 'line[0-9]+', 'audit': '-', 'check': '(keeps|breaks)[0-8]'}  # beside the number; the others tell a record
 RECORD = '[0-9a-f]{32}'
 ANSWER = '[0-9]+ (%s)( [0-9a-f]+| -){2} [0-9a-f]{16}'

@@ -43,6 +43,7 @@ int main(void) {
     place(OTHERS_ITEM, HUB_ITEM, SECOND);
     place(OFFICE_ITEM, HUB_ITEM, 0);
     table.groups[0] = FIRST | SECOND;
+    table.most[0] = 1;
     table.count = 1;
 
     played(hub_put(table, GROWER, figures, sizeof figures));

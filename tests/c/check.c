@@ -1,8 +1,8 @@
 /*
- * Checks of the conflict groups, on tables with none, some and eight of them. A check tells what a plain loop over the
- * groups tells. A hand that no number before 11 refuses is refused by 11 where the check of all that the receiver holds and
- * the tag does not keep, and else is allowed. On a table that lacks the form a check tells 99 and nothing else. Prints a
- * line for each table on which something else is told, and then fails.
+ * Checks of the conflict groups, on tables with none, some and eight of them, with the number 1 and with others. A check
+ * tells what a plain loop over the groups and their numbers tells. A hand that no number before 11 refuses is refused by 11
+ * where the check of all that the receiver holds and the tag does not keep, and else is allowed. On a table that lacks the
+ * form a check tells 99 and nothing else. Prints a line for each table on which something else is told, and then fails.
  */
 #include <stdio.h>
 #include <string.h>
@@ -36,16 +36,22 @@ static const char TEXT[] =
 /* Whose hands are made, and to whom: slots of the text, a free one, and such as there are not. */
 static const uint8_t slots[] = {0, 1, 2, 3, 4, 5, 6, 7, 8, 9, 20, 31, 32, 255};
 
-/* A count, and all eight words. */
+/* A count, and all eight words and numbers. */
 static const struct {
     size_t count;
     uint64_t words[HUB_GROUPS];
+    uint8_t most[HUB_GROUPS];
 } groups[] = {
-    {0, {ALL, ALL, ALL, ALL, ALL, ALL, ALL, ALL}},
-    {1, {0x3, ALL, ALL, ALL, ALL, ALL, ALL, ALL}},
-    {3, {0x30, 0x1, 0x1005, 0x3, ALL, ALL, ALL, ALL}},
-    {8, {0x3, 0xc, 0x30, 0, 0xc0, TAG(63), 0x300 | TAG(63), 0xc00 | TAG(62) | TAG(63)}},
-    {8, {ALL, ALL, ALL, ALL, ALL, ALL, ALL, ALL}},
+    {0, {ALL, ALL, ALL, ALL, ALL, ALL, ALL, ALL}, {0, 65, 255, 1, 64, 2, 0, 0}},
+    {1, {0x3, ALL, ALL, ALL, ALL, ALL, ALL, ALL}, {1, 0, 0, 0, 0, 0, 0, 0}},
+    {3, {0x30, 0x1, 0x1005, 0x3, ALL, ALL, ALL, ALL}, {1, 1, 1, 1, 1, 1, 1, 1}},
+    {8, {0x3, 0xc, 0x30, 0, 0xc0, TAG(63), 0x300 | TAG(63), 0xc00 | TAG(62) | TAG(63)}, {1, 1, 1, 1, 1, 1, 1, 1}},
+    {8, {ALL, ALL, ALL, ALL, ALL, ALL, ALL, ALL}, {1, 1, 1, 1, 1, 1, 1, 1}},
+    {1, {ALL, ALL, ALL, ALL, ALL, ALL, ALL, ALL}, {2, 1, 1, 1, 1, 1, 1, 65}},
+    {3, {0x7, 0x1017, 0x1017 | TAG(62), 0x3, ALL, ALL, ALL, ALL}, {2, 3, 4, 255, 0, 1, 1, 1}},
+    {8, {0x3, 0xc, 0x35, 0, 0x10c1, TAG(63), 0x305 | TAG(63), ALL}, {2, 1, 2, 3, 1, 64, 3, 63}},
+    {8, {ALL, ALL, ALL, ALL, ALL, ALL, ALL, ALL}, {64, 64, 64, 63, 62, 3, 2, 1}},
+    {8, {ALL, ALL, ALL, ALL, ALL, ALL, ALL, ALL}, {64, 64, 64, 64, 64, 64, 64, 64}},
 };
 
 static uint64_t held(const struct hub_table *t, uint8_t slot) {
@@ -55,8 +61,10 @@ static uint64_t held(const struct hub_table *t, uint8_t slot) {
 
 static struct hub_checked looped(const struct hub_table *t, uint64_t tags) {
     struct hub_checked checked = {0, true, 0};
-    while (checked.keeps && checked.counted < t->count)
-        checked.keeps = __builtin_popcountll(t->groups[checked.counted++] & tags) <= 1;
+    while (checked.keeps && checked.counted < t->count) {
+        size_t n = checked.counted++;
+        checked.keeps = __builtin_popcountll(t->groups[n] & tags) <= t->most[n];
+    }
     return checked;
 }
 
@@ -103,7 +111,7 @@ static size_t wrong_hands(const struct hub_table *t) {
     return wrong;
 }
 
-/* How many checks of no tag, one, two, and all but these are not what the loop tells. */
+/* How many checks of no tag, one, two, and all but these, and of the lowest tags are not what the loop tells. */
 static size_t wrong_checks(const struct hub_table *t) {
     size_t wrong = !same(hub_check(*t, 0), looped(t, 0)) + !same(hub_check(*t, ALL), looped(t, ALL));
     uint8_t a, b;
@@ -112,12 +120,33 @@ static size_t wrong_checks(const struct hub_table *t) {
             uint64_t tags = TAG(a) | TAG(b);
             wrong += !same(hub_check(*t, tags), looped(t, tags)) + !same(hub_check(*t, ~tags), looped(t, ~tags));
         }
+    for (a = 0; a < TAGS; a++)
+        wrong += !same(hub_check(*t, TAG(a) - 1), looped(t, TAG(a) - 1));
+    return wrong;
+}
+
+static const struct hub_checked none = {99, false, 0};
+
+/* For every number of each group: how many checks and hands are not refused by 99 just where the group counts and the
+   number is not 1 to 64, or tell something else than the loop, or do not leave the numbers. */
+static size_t wrong_numbers(const struct hub_table *t) {
+    size_t wrong = 0, place;
+    unsigned number;
+    for (place = 0; place < HUB_GROUPS; place++)
+        for (number = 0; number <= UINT8_MAX; number++) {
+            struct hub_table other = *t;
+            bool lacks = place < t->count && (number < 1 || number > TAGS);
+            struct hub_reply reply;
+            other.most[place] = (uint8_t)number;
+            reply = hub_hand(other, 0, 8, HUB_ADD_SECRECY, 0);
+            wrong += !same(hub_check(other, ALL), lacks ? none : looped(&other, ALL));
+            wrong += (reply.number == 99) != lacks || memcmp(reply.table.most, other.most, sizeof other.most) != 0;
+        }
     return wrong;
 }
 
 /* How many checks on tables that lack the form are not 99 alone. */
 static size_t wrong_under_99(const struct hub_table *t) {
-    static const struct hub_checked none = {99, false, 0};
     struct hub_table lacking[] = {*t, *t, *t, *t, *t, *t};
     size_t wrong = 0, n;
     lacking[0].count = HUB_GROUPS + 1;
@@ -144,9 +173,11 @@ int main(void) {
     for (n = 0; n < COUNT(groups); n++) {
         l.table.count = groups[n].count;
         memcpy(l.table.groups, groups[n].words, sizeof groups[n].words);
+        memcpy(l.table.most, groups[n].most, sizeof groups[n].most);
         failed |= told(n, wrong_checks(&l.table), "checks tell something else");
         failed |= told(n, wrong_hands(&l.table), "hands return something else");
         failed |= told(n, wrong_under_99(&l.table), "checks tell something else under 99");
+        failed |= told(n, wrong_numbers(&l.table), "checks and hands do something else by the number of a group");
     }
     return failed;
 }

@@ -15,9 +15,9 @@ static const char TEXT[] =
     "30 item 400 800 0 0 0 0 a1b2c3\n"
     "31 prog 1 2 4 8 10 20 a1b2\n"
     "\n"
-    "tags\n"
-    "3000\n"
-    "c000\n"
+    "most tags\n"
+    "1 3000\n"
+    "3 f000\n"
     "\n"
     "call caller other set tag data\n";
 
@@ -41,6 +41,7 @@ static void recorded(struct hub_reply r, const char *name, int kind, int caller,
 
 int main(void) {
     static const uint8_t bytes[3] = {1, 2, 3};
+    static const uint8_t most[HUB_GROUPS] = {1, 3, 1, 1, 1, 1, 1, 1}, ones[HUB_GROUPS] = {1, 1, 1, 1, 1, 1, 1, 1};
     uint8_t list[2 * HUB_RECORD] = {0}, out[3 * HUB_RECORD];
     struct hub_loaded l = hub_load((const uint8_t *)TEXT, sizeof TEXT - 2);
     struct hub_audited a;
@@ -57,7 +58,8 @@ int main(void) {
     expect(s.sa == 4 && s.sd == 8 && s.ia == 16 && s.id == 32, "hub_slot: rights");
     expect(s.len == 2 && t.slots[30].len == 3, "hub_slot: len");
     expect(t.content[2046 - 62] == 0xa1 && t.content[2047 - 62] == 0xb2 && t.content[2047] == 0, "hub_table: content");
-    expect(t.groups[0] == 0x3000 && t.groups[1] == 0xc000 && t.groups[2] == 0, "hub_table: groups");
+    expect(t.groups[0] == 0x3000 && t.groups[1] == 0xf000 && t.groups[2] == 0, "hub_table: groups");
+    expect(memcmp(t.most, most, sizeof most) == 0, "hub_table: most");
     expect(t.count == 2, "hub_table: count");
 
     /* a right over tag 2, 3, 4 or 5 is that to add to S, drop from S, add to I or drop from I */
@@ -84,14 +86,20 @@ int main(void) {
     a = hub_audit(t, 0, list, sizeof list, out, HUB_RECORD - 1);
     expect(a.number == 13 && a.len == 0, "hub_audit: the buffer's length");
 
-    c = hub_check(t, 0x9000);
+    c = hub_check(t, 0xd000);
     expect(c.number == 0 && c.keeps && c.counted == 2, "hub_check: no group is broken");
+    t.most[1] = 2;
     c = hub_check(t, 0xd000);
     expect(c.number == 0 && !c.keeps && c.counted == 2, "hub_check: the second group is broken");
+    t.most[1] = 0;
+    c = hub_check(t, 0xd000);
+    expect(c.number == 99 && !c.keeps && c.counted == 0, "hub_check: a group with the number 0");
+    t.most[1] = 3;
     t.count = HUB_GROUPS + 1;
     c = hub_check(t, 0);
     expect(c.number == 99 && !c.keeps && c.counted == 0, "hub_check: a table that lacks the form");
     t = hub_empty();
     expect(t.slots[0].kind == HUB_FREE && t.count == 0 && t.content[0] == 0, "hub_empty");
+    expect(memcmp(t.most, ones, sizeof ones) == 0, "hub_empty: most");
     return failed;
 }

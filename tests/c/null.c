@@ -20,7 +20,8 @@ int main(void) {
     uint8_t record[HUB_RECORD] = {1, 0, 255, 0, 0, 255, 255, 0};
 
     expect(l.number == 15 && l.line == 1, "hub_load(NULL, 0) is refused by 15 at line 1");
-    expect(l.table.count == 0 && l.table.slots[0].kind == HUB_FREE, "hub_load(NULL, 0) gives the empty table");
+    expect(l.table.count == 0 && l.table.most[0] == 1 && l.table.slots[0].kind == HUB_FREE,
+           "hub_load(NULL, 0) gives the empty table");
 
     t.slots[0].kind = HUB_PROGRAM;
     with_content = t;

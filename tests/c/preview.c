@@ -16,8 +16,8 @@ static const char TEXT[] =
     "2 item 1 0 0 0 0 0 d4\n"
     "3 item 0 0 0 0 0 0 e5\n"
     "\n"
-    "tags\n"
-    "14\n"
+    "tags most\n"
+    "16 2\n"
     "\n"
     "call caller other set tag data\n";
 
@@ -81,7 +81,8 @@ static int same_table(const struct hub_table *a, const struct hub_table *b) {
     while (n < HUB_SLOTS && same_slot(&a->slots[n], &b->slots[n]))
         n++;
     return n == HUB_SLOTS && memcmp(a->content, b->content, sizeof a->content) == 0 &&
-           memcmp(a->groups, b->groups, sizeof a->groups) == 0 && a->count == b->count;
+           memcmp(a->groups, b->groups, sizeof a->groups) == 0 && memcmp(a->most, b->most, sizeof a->most) == 0 &&
+           a->count == b->count;
 }
 
 /* The round from a table, without previews. */
@@ -134,6 +135,12 @@ int main(void) {
     struct hub_loaded l = hub_load((const uint8_t *)TEXT, sizeof TEXT - 1);
     expect(l.number == 0, CALLS, "the text is refused");
     compare(l.table, 1);
+    l.table.most[1] = 0;
+    l.table.most[HUB_GROUPS - 1] = 65;
+    compare(l.table, 1);
+    l.table.most[0] = 0;
+    compare(l.table, 0);
+    l.table.most[0] = 2;
     l.table.count = HUB_GROUPS + 1;
     compare(l.table, 0);
     return failed;

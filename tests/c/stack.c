@@ -19,8 +19,8 @@ static const char TEXT[] =
     "0 prog 1 0 20 20 0 0 a1b2\n"
     "1 item 1 0 0 0 0 0 07\n"
     "\n"
-    "tags\n"
-    "3\n"
+    "tags most\n"
+    "3 64\n"
     "\n"
     "call caller other set tag data\n"
     "put 0 - - - a1b2\n";

@@ -5,10 +5,11 @@ use mathlib.Core.Bool.{Bool, true, cond, ◌&&◌}
 use mathlib.Core.List.{List, [], ◌∷◌, map}
 use Prim.Native.Nat.{ℕ}
 use lib.Dec.{leb, eqb}
+use Rattle.std.specs.List.{list_all}
 use lib.ListN.{length, get_or, replicate}
 use Rattle.rules.specs.Bounded.{all_below}
 use Rattle.rules.specs.Table.{Slot, Tables, Plain, plain, free, slot_formed, slot_keeps, accepted}
-use Rattle.rules.specs.Calls.{Call, show}
+use Rattle.rules.specs.Calls.{Call, show, hand}
 use Rattle.rules.specs.Refusals.{number_of, verdict}
 use Rattle.rules.specs.Record.{Answer, answer, Audit, audit, records_in, shown_of}
 use Rattle.rules.specs.Runs.{final, gained, next, records}
@@ -16,10 +17,10 @@ use Rattle.rules.specs.ByNumber.{passing}
 use Rattle.rules.proofs.Facts.{and_left}
 use Rattle.rules.proofs.Steps.{free_formed}
 use Rattle.rules.proofs.Plain.{plain_laws}
-use Rattle.label.specs.Tags.{tag_of, set_of, sum_of, subset_in, equal_in, union_in, with_in, without_in, common_in, bytes_in, empty, has_tag, subset_of, equal_of, union_of, with_tag, without_tag, common_of, keeps_to, bytes_of, from_bytes_in, from_bytes}
+use Rattle.label.specs.Tags.{group_formed, tag_of, set_of, sum_of, subset_in, equal_in, union_in, with_in, without_in, common_in, bytes_in, empty, has_tag, subset_of, equal_of, union_of, with_tag, without_tag, common_of, keeps_to, bytes_of, from_bytes_in, from_bytes}
 use Rattle.label.specs.Words.{words}
 use Rattle.label.proofs.Words.{words_order}
-use Rattle.cases.specs.Cases.{Small, table_of, Case, cases, given, turned_down, CasesHold, EachOccurs}
+use Rattle.cases.specs.Cases.{Small, table_of, Case, cases, given, turned_down, trial, Trial, trials, tried, CasesHold, EachOccurs, TrialsHold}
 use Rattle.cases.specs.Rounds.{Line, events, told, turns, expected, round_table, round, second_table, second, probe_table, probe, previewed, watched_table, Holds, RoundHolds, SecondHolds, ProbeHolds, PreviewedHolds, BuffersHold, AuditsHold}
 use Rattle.cases.proofs.Sure.{sure, end, sure_answer, round_sure, round_told, round_records, round_audit}
 
@@ -32,7 +33,7 @@ computed = 0
 abbrev tested : Tables words
 tested = record {
   Table = Plain words;
-  formed = λ t. (slot_formed (t.slots 1) && (slot_formed (t.slots 0) && true)) && leb (length t.groups) 8;
+  formed = λ t. (slot_formed (t.slots 1) && (slot_formed (t.slots 0) && true)) && (leb (length t.groups) 8 && list_all group_formed t.groups);
   slot = λ t i. t.slots i;
   groups = λ t. t.groups;
   store = (plain words).store;
@@ -43,7 +44,7 @@ unfolding all_below
 all_two f a b h = rw h
 
 formed_is : (t : Small) → (plain words).formed (table_of t) ≡ tested.formed (table_of t)
-formed_is t = ap (λ (x : Bool). x && leb (length t.groups) 8) (all_two slot_formed t.caller t.receiver (free_formed words_order))
+formed_is t = ap (λ (x : Bool). x && (leb (length t.groups) 8 && list_all group_formed t.groups)) (all_two slot_formed t.caller t.receiver (free_formed words_order))
 
 given_is : (k : Case) → given k ≡ record {
   accepted = tested.formed (table_of k.table) && all_below 32 (λ i. slot_keeps k.table.groups ((table_of k.table).slots i));
@@ -66,6 +67,17 @@ cases_hold = map_is given_is cases
 pub each_occurs : EachOccurs
 unfolding computed
 each_occurs = map_is number_is turned_down
+
+tried_is : (k : Trial) → tried k ≡ record {
+  groups = k.groups;
+  accepted = tested.formed (table_of (trial k.groups)) && all_below 32 (λ i. slot_keeps k.groups ((table_of (trial k.groups)).slots i));
+  number = number_of (verdict tested (table_of (trial k.groups)) (hand 0 1 1 2));
+}
+tried_is k = rw (formed_is (trial k.groups))
+
+pub trials_hold : TrialsHold
+unfolding computed
+trials_hold = map_is tried_is trials
 
 round-plays : turns (sure (plain words)) round_table round ≡ expected round_table round
 unfolding computed

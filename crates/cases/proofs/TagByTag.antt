@@ -3,18 +3,21 @@
 use mathlib.Core.Path.{◌≡◌, refl, ap, ap₂, sym, ◌∙◌}
 use mathlib.Core.Logic.{⊎_elim}
 use mathlib.Core.Bool.{Bool, true, false, cond, not, ◌&&◌, ◌||◌}
+use mathlib.Core.List.{List, [], ◌∷◌}
+use lib.ListN.{length}
 use Prim.Native.Nat.{ℕ, zero, suc, ◌+◌, ◌≤◌, ◌<◌, min, max}
-use native.Mathlib.Nat.{le-suc, le_refl, lt_of_lt_of_le, eq-or-lt_of_le, le_of_suc-le-suc, not-suc-le-zero}
+use native.Mathlib.Nat.{eq-or-lt_of_le, le_of_suc-le-suc}
 use native.Mathlib.Omega.{arith}
-use lib.Dec.{ltb, eqb}
-use borrow.Author.Tests.{eqb-true, eqb-false, eq-eqb, ltb-true, ltb-false, leb-true, le-leb}
+use lib.Dec.{eqb}
+use borrow.Author.Tests.{eqb-true, eqb-false, eq-eqb, leb-true, le-leb}
 use Rattle.rules.specs.Table.{Slot, held}
 use Rattle.rules.proofs.Facts.{and_left, and_right, both, either}
+use Rattle.label.specs.declared.Group.{Group}
 use Rattle.label.specs.declared.Label.{Label}
 use Rattle.label.specs.Tags.{tag_of, sum_of, common_in, has_tag, subset_of, equal_of, union_of, with_tag, without_tag, common_of, keeps_to}
 use Rattle.label.specs.Words.{words}
-use Rattle.label.proofs.Laws.{tag-lt, union-tag, with-tag, without-tag, subset_tag, subset_of_tags, equal-tag, equal_of_tags}
-use Rattle.cases.specs.TagByTag.{has, Subset, TagByTag}
+use Rattle.label.proofs.Laws.{sum_mono, tag-lt, union-tag, with-tag, without-tag, subset_tag, subset_of_tags, equal-tag, equal_of_tags}
+use Rattle.cases.specs.TagByTag.{has, Descending, AtMost, Subset, TagByTag}
 
 -- ---- one tag, 1 or 0
 
@@ -35,38 +38,6 @@ bit_min (suc zero) (suc zero) l m = refl
 bit_min zero (suc (suc y)) l m = absurd (omega arith)
 bit_min (suc zero) (suc (suc y)) l m = absurd (omega arith)
 bit_min (suc (suc x)) y l m = absurd (omega arith)
-
--- ---- sums of ones
-
-one_in : (k : ℕ) (f : ℕ → ℕ) (p : ℕ) → p < k → f p ≤ sum_of k f
-unfolding sum_of
-one_in zero f p l = absurd (not-suc-le-zero l)
-one_in (suc k) f p l = ⊎_elim (λ e. omega (arith, ap f e)) (λ m. omega (arith, one_in k f p m)) (eq-or-lt_of_le (le_of_suc-le-suc l))
-
-two_in : (k : ℕ) (f : ℕ → ℕ) (p q : ℕ) → p < q → q < k → f p + f q ≤ sum_of k f
-unfolding sum_of
-two_in zero f p q m l = absurd (not-suc-le-zero l)
-two_in (suc k) f p q m l = ⊎_elim
-    (λ (e : q ≡ k). omega (arith, ap f e, one_in k f p (omega arith)))
-    (λ n. omega (arith, two_in k f p q m n)) (eq-or-lt_of_le (le_of_suc-le-suc l))
-
-none_in : (k : ℕ) (f : ℕ → ℕ) → ((n : ℕ) → n < k → f n ≡ 0) → sum_of k f ≡ 0
-unfolding sum_of
-none_in zero f h = refl
-none_in (suc k) f h = ap₂ ◌+◌ (h k (le_refl (suc k))) (none_in k f (λ n l. h n (lt_of_lt_of_le l (le-suc k))))
-
--- at most one of them is 1
-one_only : (k : ℕ) (f : ℕ → ℕ) → ((n : ℕ) → f n < 2) → ((p q : ℕ) → p < k → q < k → f p ≡ 1 → f q ≡ 1 → p ≡ q) → sum_of k f ≤ 1
-unfolding sum_of
-one_only zero f b h = omega arith
-one_only (suc k) f b h = either (eqb (f k) 1)
-    (λ e. omega (arith, eqb-true (f k) 1 e, none_in k f (λ n l. alone n l (eqb-true (f k) 1 e))))
-    (λ e. let z = eqb-false (f k) 1 e in omega (arith, b k, one_only k f b (λ p q l m. h p q (lt_of_lt_of_le l (le-suc k)) (lt_of_lt_of_le m (le-suc k)))))
-  where
-    alone : (n : ℕ) → n < k → f k ≡ 1 → f n ≡ 0
-    alone n l e = either (eqb (f n) 1)
-        (λ d. let q : n ≡ k = h n k (lt_of_lt_of_le l (le-suc k)) (le_refl (suc k)) (eqb-true (f n) 1 d) e in absurd (omega arith))
-        (λ d. let z = eqb-false (f n) 1 d in omega (arith, b n))
 
 -- ---- labels
 
@@ -102,21 +73,68 @@ module _ (a g : Label) where
   unfolding common
   common_lt p = omega (arith, tag-lt a.bits p)
 
-  keeps_one : keeps_to g a ≡ true → (p q : ℕ) → p < 64 → q < 64 → has_tag a p && has_tag g p ≡ true → has_tag a q && has_tag g q ≡ true → p ≡ q
-  unfolding keeps_to common_of common_in common
-  keeps_one h p q l m x y = either (ltb p q) (λ e. absurd (over p q (ltb-true p q e) m x y))
-      (λ e. either (ltb q p) (λ d. absurd (over q p (ltb-true q p d) l y x)) (λ d. omega (arith, ltb-false p q e, ltb-false q p d)))
+-- the tags of a group that an entity has, listed
+module _ (g : Label) (e : Slot words) where
+  tags : ℕ → ℕ
+  tags = common (held e) g
+
+  -- a listed tag is one in common, and counts
+  counts : (p : ℕ) → p < 64 → eqb (tags p) 1 ≡ has e p && has_tag g p
+  unfolding tags
+  counts p l = common_has (held e) g p ∙ ap (λ (x : Bool). x && has_tag g p) (union_six e p l)
+
+  weaker : (n k : ℕ) → n ≤ k → (ps : List ℕ) → Descending g e n ps → Descending g e k ps
+  weaker n k h [] l = tt
+  weaker n k h (p ∷ ps) l = (omega (arith, l.0), l.1, l.2)
+
+  no_longer : (k : ℕ) → k ≤ 64 → (ps : List ℕ) → Descending g e k ps → length ps ≤ sum_of k tags
+  unfolding sum_of
+  no_longer k h [] l = omega arith
+  no_longer zero h (p ∷ ps) l = absurd (omega (arith, l.0))
+  no_longer (suc k) h (p ∷ ps) l = ⊎_elim
+      (λ (q : p ≡ k).
+      let one : tags p ≡ 1 = eqb-true (tags p) 1 (counts p (omega (arith, l.0)) ∙ l.1) in
+      omega (arith, one, ap tags q, no_longer k (omega arith) ps (weaker p k (omega (arith, q)) ps l.2)))
+      (λ m. omega (arith, no_longer k (omega arith) (p ∷ ps) (m, l.1, l.2)))
+      (eq-or-lt_of_le (le_of_suc-le-suc l.0))
+
+  -- all of them below k
+  list : ℕ → List ℕ
+  list zero = []
+  list (suc k) = cond (eqb (tags k) 1) (k ∷ list k) (list k)
+
+  listed : (k : ℕ) → k ≤ 64 → Descending g e k (list k)
+  unfolding list
+  listed zero h = tt
+  listed (suc k) h = go (eqb (tags k) 1) refl (listed k (omega arith))
     where
-      is_one : (n : ℕ) → has_tag a n && has_tag g n ≡ true → common n ≡ 1
-      is_one n e = eqb-true (common n) 1 (common_has n ∙ e)
+      go : (b : Bool) → eqb (tags k) 1 ≡ b → Descending g e k (list k) → Descending g e (suc k) (cond b (k ∷ list k) (list k))
+      go true q r = (omega arith, sym (counts k (omega arith)) ∙ q, r)
+      go false q r = weaker k (suc k) (omega arith) (list k) r
 
-      over : (p q : ℕ) → p < q → q < 64 → has_tag a p && has_tag g p ≡ true → has_tag a q && has_tag g q ≡ true → ⊥
-      over p q n m x y = omega (arith, two_in 64 common p q n m, is_one p x, is_one q y, leb-true (sum_of 64 common) 1 h)
+  as_long : (k : ℕ) → length (list k) ≡ sum_of k tags
+  unfolding list sum_of tags
+  as_long zero = refl
+  as_long (suc k) = go (eqb (tags k) 1) refl (as_long k)
+    where
+      go : (b : Bool) → eqb (tags k) 1 ≡ b → length (list k) ≡ sum_of k tags → length (cond b (k ∷ list k) (list k)) ≡ tags k + sum_of k tags
+      go true q r = ap suc r ∙ omega (arith, eqb-true (tags k) 1 q)
+      go false q r = let z = eqb-false (tags k) 1 q in r ∙ omega (arith, common_lt (held e) g k)
 
-  one_keeps : ((p q : ℕ) → p < 64 → q < 64 → has_tag a p && has_tag g p ≡ true → has_tag a q && has_tag g q ≡ true → p ≡ q) → keeps_to g a ≡ true
-  unfolding keeps_to common_of common_in common
-  one_keeps h = le-leb (sum_of 64 common) 1 (one_only 64 common common_lt
-      (λ p q l m x y. h p q l m (sym (common_has p) ∙ eq-eqb (common p) 1 x) (sym (common_has q) ∙ eq-eqb (common q) 1 y)))
+keeps_at_most : (g : Group) (e : Slot words) → keeps_to g (held e) ≡ true → AtMost g e
+unfolding keeps_to common_of common_in common tags
+keeps_at_most g e h ps l = omega (arith, no_longer g.tags e 64 (omega arith) ps l, leb-true (sum_of 64 (tags g.tags e)) g.most h)
+
+at_most_keeps : (g : Group) (e : Slot words) → AtMost g e → keeps_to g (held e) ≡ true
+unfolding keeps_to common_of common_in common tags
+at_most_keeps g e h = le-leb (sum_of 64 (tags g.tags e)) g.most (omega (arith, h (list g.tags e 64) (listed g.tags e 64 (omega arith)), as_long g.tags e 64))
+
+binds_nobody : (g : Group) (e : Slot words) → common_of g.tags g.tags ≤ g.most → keeps_to g (held e) ≡ true
+unfolding keeps_to common_of common_in common
+binds_nobody g e h = le-leb _ g.most (omega (arith, h, sum_mono 64 (common (held e) g.tags) (common g.tags g.tags) (λ n l. fewer (tag_of (held e).bits n) (tag_of g.tags.bits n))))
+  where
+    fewer : (x y : ℕ) → min x y ≤ min y y
+    fewer x y = omega arith
 
 subset_tags : (a b : Label) → subset_of a b ≡ true → Subset a b
 unfolding subset_of has_tag
@@ -162,8 +180,9 @@ without_has p a q l = ap (λ (x : ℕ). eqb x 1) (without-tag 64 a.bits p q l) �
 pub tag_by_tag : TagByTag
 tag_by_tag = record {
   union = union_six;
-  keeps = λ g e h p q l m x y. keeps_one (held e) g (and_left (keeps_to g (held e)) _ h) p q l m (rw (union_six e p l) x) (rw (union_six e q m) y);
-  kept = λ g e h. both (keeps_to g (held e)) _ (one_keeps (held e) g (λ p q l m x y. h p q l m (rw (union_six e p l) at x) (rw (union_six e q m) at y))) refl;
+  keeps = λ g e h. keeps_at_most g e (and_left (keeps_to g (held e)) _ h);
+  kept = λ g e h. both (keeps_to g (held e)) _ (at_most_keeps g e h) refl;
+  unbinding = λ g e h. both (keeps_to g (held e)) _ (binds_nobody g e h) refl;
   flows = λ a b h. (subset_tags a.sec b.sec (and_left (subset_of a.sec b.sec) _ h), subset_tags b.int a.int (and_right (subset_of a.sec b.sec) _ h));
   flowing = λ a b h. both (subset_of a.sec b.sec) _ (tags_subset a.sec b.sec h.0) (tags_subset b.int a.int h.1);
   equals = equal_tags;

@@ -86,7 +86,7 @@ round_table = record {
       cond (eqb i 0) (entity Program 1 0 0 0 0 0 (hex "a1b2"))
       (cond (eqb i 1) (entity Program 0 0 1 0 0 0 [])
       (cond (eqb i 2) (entity Item 0 0 0 0 0 0 (hex "07")) free));
-  groups = label_of 3 ∷ [];
+  groups = record { tags = label_of 3; most = 1 } ∷ [];
 }
 
 abbrev pub round : List (Line (Plain words))
@@ -111,7 +111,7 @@ second_table = record {
       cond (eqb i 0) (entity Program 0x200 0 0 0x200 0x1000 0 (hex "c3"))
       (cond (eqb i 1) (entity Program 0 0 0 0 0 0 [])
       (cond (eqb i 2) (entity Item 0x200 0 0 0 0 0 (hex "07")) free));
-  groups = label_of 0xc00 ∷ [];
+  groups = record { tags = label_of 0xc00; most = 1 } ∷ [];
 }
 
 abbrev pub second : List (Line (Plain words))

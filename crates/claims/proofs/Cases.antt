@@ -1,15 +1,15 @@
 -- The worked cases at the struct: it holds the slots of the bare table, so it answers as that does.
 -- Assumes nothing.
 use mathlib.Core.Path.{◌≡◌, refl, sym, ap, ◌∙◌}
-use mathlib.Core.Bool.{Bool, true, false, cond}
+use mathlib.Core.Bool.{Bool, true, false, cond, ◌&&◌}
 use mathlib.Core.List.{List, [], ◌∷◌, map}
 use Prim.Native.Nat.{ℕ, zero, suc, ◌≤◌, ◌<◌}
 use native.Mathlib.Omega.{arith}
 use lib.Arith.{lt_of_le-ne}
-use lib.Dec.{ltb, eqb}
+use lib.Dec.{ltb, leb, eqb}
 use lib.ListN.{length, get_or}
-use lib.Seq.{take-append_seam}
 use borrow.Author.Tests.{leb-true, ltb-true, ltb-false, lt-ltb, le-ltb, eqb-true, eqb-false}
+use Rattle.std.specs.List.{list_all}
 use Rattle.rules.specs.Bounded.{all_below}
 use Rattle.rules.specs.Table.{slot_formed, Plain, plain, free, slot_keeps, accepted}
 use Rattle.rules.specs.Runs.{gained}
@@ -18,6 +18,7 @@ use Rattle.rules.proofs.Facts.{and_left, and_right, both, either}
 use Rattle.rules.proofs.Bounded.{all-at, all_of}
 use Rattle.rules.proofs.Plain.{plain_laws}
 use Rattle.rules.proofs.SameSlots.{same_answer, answers_by_slots}
+use Rattle.label.specs.Tags.{group_formed}
 use Rattle.label.specs.Words.{words}
 use Rattle.label.proofs.Words.{words_order}
 use Rattle.entity.specs.declared.Entity.{Entity}
@@ -26,9 +27,9 @@ use Rattle.block.specs.Block.{block_at}
 use Rattle.cases.specs.Cases.{table_of, Case, cases, Result, given, stated}
 use Rattle.cases.specs.Rounds.{Line, events, Holds}
 use Rattle.cases.proofs.Cases.{cases_hold, round_holds, second_holds, probe_holds, previewed_holds}
-use Rattle.monitor.specs.Table.{formed, groups_of, hub, empty_table}
+use Rattle.monitor.specs.Table.{formed, groups_of, hub, empty_table, empty_with}
 use Rattle.monitor.proofs.Form.{hub_laws}
-use Rattle.monitor.proofs.Empty.{empty-entity, empty_form}
+use Rattle.monitor.proofs.Empty.{empty-entity, empty_groups, empty_form}
 use Rattle.claims.specs.Cases.{filled_to, table_holding, given_at_hub, CasesHoldAtHub, PlaysAtHub, RoundsHoldAtHub}
 
 apart : (i k : ℕ) → k ≤ i → (i ≡ k → ⊥) → suc k ≤ i
@@ -37,8 +38,8 @@ apart i k h n = lt_of_le-ne h (λ q. n (sym q))
 -- ---- the struct holds the slots
 
 module _ (p : Plain words) (f : (plain words).formed p ≡ true) where
-  few : length p.groups ≤ 8
-  few = leb-true _ _ (and_right (all_below 32 (λ i. slot_formed (p.slots i))) _ f)
+  groups-formed : leb (length p.groups) 8 && list_all group_formed p.groups ≡ true
+  groups-formed = and_right (all_below 32 (λ i. slot_formed (p.slots i))) _ f
 
   -- with the slots below k written
   record Written (k : ℕ) : Type 0 where
@@ -47,11 +48,11 @@ module _ (p : Plain words) (f : (plain words).formed p ≡ true) where
     groups : groups_of (filled_to p k) ≡ p.groups
 
   start : Written 0
-  unfolding filled_to
+  unfolding filled_to empty_with
   start = record {
-    form = empty_form _ (length p.groups) few;
+    form = empty_form p.groups (leb-true _ _ (and_left (leb (length p.groups) 8) _ groups-formed)) (and_right (leb (length p.groups) 8) _ groups-formed);
     slots = λ i l. ap (λ (e : Entity). slot_of e (block_at empty_table.content i)) (empty-entity i l) ∙ rw (le-ltb i 0 (omega arith));
-    groups = take-append_seam p.groups _;
+    groups = empty_groups p.groups;
   }
 
   more : (k : ℕ) → k < 32 → Written k → Written (suc k)

@@ -5,8 +5,7 @@ use mathlib.Core.Bool.{Bool, true, false, ◌||◌}
 use Prim.Native.Nat.{ℕ, ◌≤◌, ◌<◌}
 use native.Mathlib.Omega.{arith}
 use lib.Dec.{ltb}
-use lib.ListN.{length, get_or, length-take}
-use lib.Seq.{get_or-take}
+use lib.ListN.{length, get_or}
 use borrow.Author.Tests.{leb-true, leb-false, lt-ltb, ltb-false}
 use Rattle.std.specs.Prelude.{Result, Ok, Err}
 use Rattle.rules.specs.declared.Refusal.{Refusal}
@@ -16,17 +15,17 @@ use Rattle.rules.specs.Calls.{hand, grant, with_rights}
 use Rattle.rules.specs.Refusals.{all_refusals, verdict}
 use Rattle.rules.proofs.Facts.{either, alone, clear, not-false, not-true, neither_left, neither_right, passed, returned}
 use Rattle.label.specs.declared.Label.{Label}
-use Rattle.label.specs.Tags.{keeps_to, common_of, empty}
+use Rattle.label.specs.Tags.{keeps_to, common_of}
 use Rattle.label.specs.Words.{words}
 use Rattle.entity.proofs.Held.{held_with}
 use Rattle.groups.specs.declared.Checked.{Checked}
 use Rattle.groups.specs.Check.{counted, checked, check_at}
 use Rattle.groups.proofs.Counts.{walk_counts}
 use Rattle.monitor.specs.declared.Table.{Table}
-use Rattle.monitor.specs.Table.{formed, groups_of, hub}
-use Rattle.claims.specs.InForm.{stands_in}
+use Rattle.monitor.specs.Table.{tags_in, most_in, formed, groups_of, hub}
+use Rattle.claims.specs.InForm.{stands_in, InForm}
 use Rattle.claims.specs.Checks.{Says, ChecksSpelt, gaining, HandsChecked}
-use Rattle.claims.proofs.InForm.{form_spelt}
+use Rattle.claims.proofs.InForm.{no_group, counted_length, counted-at, form_spelt}
 
 -- ---- an answer is no refusal
 
@@ -35,35 +34,38 @@ no_answer r c e = cc
 
 -- ---- the groups that count, by their places in the array
 
-module _ (t : Table) (l : Label) (eight : length t.groups ≡ 8) (few : t.count ≤ 8) where
+module _ (t : Table) (l : Label) (f : InForm t) where
   among : length (groups_of t) ≡ t.count
-  among = omega (arith, length-take t.count t.groups)
+  among = counted_length t f.groups f.most f.count
 
-  within_one : (i : ℕ) → i < t.count → words.keeps (get_or (groups_of t) i empty) l ≡ true → common_of l (get_or t.groups i empty) ≤ 1
-  unfolding keeps_to
-  within_one i m h = leb-true _ _ (rw (get_or-take t.count t.groups i empty m) at h)
+  stands : (i : ℕ) → i < t.count → get_or (groups_of t) i no_group ≡ record { tags = tags_in t i; most = most_in t i }
+  stands i m = counted-at t f.groups f.most i no_group m (omega (arith, m, f.count))
 
-  more_than_one : (i : ℕ) → i < t.count → words.keeps (get_or (groups_of t) i empty) l ≡ false → 1 < common_of l (get_or t.groups i empty)
+  within : (i : ℕ) → i < t.count → words.keeps (get_or (groups_of t) i no_group) l ≡ true → common_of l (tags_in t i) ≤ most_in t i
   unfolding keeps_to
-  more_than_one i m h = leb-false _ _ (rw (get_or-take t.count t.groups i empty m) at h)
+  within i m h = leb-true _ _ (rw (stands i m) at h)
+
+  more : (i : ℕ) → i < t.count → words.keeps (get_or (groups_of t) i no_group) l ≡ false → most_in t i < common_of l (tags_in t i)
+  unfolding keeps_to
+  more i m h = leb-false _ _ (rw (stands i m) at h)
 
   spelt : Says t l (checked words (groups_of t) l)
-  spelt = let c = (walk_counts words).counts empty (groups_of t) l in record {
-    kept = λ h i m. within_one i m ((c.none h).kept i (rw among m));
+  spelt = let c = (walk_counts words).counts no_group (groups_of t) l in record {
+    kept = λ h i m. within i m ((c.none h).kept i (rw among m));
     all = λ h. (c.none h).all ∙ among;
-    first = λ h. let f = c.first h in let b = rw among at f.within in record {
-      from_1 = f.from_1;
+    first = λ h. let r = c.first h in let b = rw among at r.within in record {
+      from_1 = r.from_1;
       within = b;
-      over = more_than_one _ (omega (arith, f.from_1, b)) f.broken;
-      before = λ i m. within_one i (omega (arith, m, b)) (f.before i m);
+      over = more _ (omega (arith, r.from_1, b)) r.broken;
+      before = λ i m. within i (omega (arith, m, b)) (r.before i m);
     };
   }
 
 pub checks_spelt : ChecksSpelt
 checks_spelt = record {
   answered = λ t l f. rw (form_spelt.enough t f);
-  says = λ t l c n e. either (formed t)
-      (λ f. let d = rw f at e in let q : checked words (groups_of t) l ≡ c = cc in subst (λ x. Says t l x) q (spelt t l n (form_spelt.holds t f).groups))
+  says = λ t l c e. either (formed t)
+      (λ f. let d = rw f at e in let q : checked words (groups_of t) l ≡ c = cc in subst (λ x. Says t l x) q (spelt t l (form_spelt.holds t f)))
       (λ f. let d = rw f at e in absurd (no_answer Formless c (sym d)));
 }
 
@@ -89,7 +91,7 @@ module _ (t : Table) (i j n p : ℕ) where
   allowed e =
       let off = passed (all_refusals hub t (hand i j n p)) e in
       let k = asked true (off 2) (not-false _ (off 11)) in
-      answers true _ (not-false _ (off 99)) k (((walk_counts words).counts empty (groups_of t) (gaining t j p)).none k).all
+      answers true _ (not-false _ (off 99)) k (((walk_counts words).counts no_group (groups_of t) (gaining t j p)).none k).all
 
   refused : verdict hub t (hand i j n p) ≡ Err BreaksGroup
       → check_at hub t (gaining t j p) ≡ Ok (record { keeps = false; counted = counted words (groups_of t) (gaining t j p) })
@@ -103,5 +105,5 @@ pub hands_checked : HandsChecked
 hands_checked = record {
   allowed = allowed;
   refused = refused;
-  place = λ t i j n p eight e. (checks_spelt.says t (gaining t j p) _ eight (refused t i j n p e)).first refl;
+  place = λ t i j n p e. (checks_spelt.says t (gaining t j p) _ (refused t i j n p e)).first refl;
 }

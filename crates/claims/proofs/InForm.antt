@@ -1,21 +1,24 @@
 -- The form behind 99 is what its fields spell out; and a table in form holds what the rules read of it.
 -- Assumes nothing.
-use mathlib.Core.Path.{◌≡◌, refl, sym, ap, ◌∙◌}
+use mathlib.Core.Path.{◌≡◌, refl, sym, ap, ◌∙◌, subst}
 use mathlib.Core.Bool.{true, not, ◌&&◌, ◌||◌}
 use mathlib.Core.List.{List, [], ◌∷◌}
-use Prim.Native.Nat.{ℕ, zero, suc, ◌+◌, ◌-◌, ◌<◌}
+use Prim.Native.Nat.{ℕ, zero, suc, ◌+◌, ◌-◌, ◌≤◌, ◌<◌}
 use native.Mathlib.Omega.{arith}
 use lib.Dec.{leb, eqb}
-use lib.ListN.{length, get_or, drop, length-drop}
-use lib.Seq.{get_or-drop}
+use lib.ListN.{length, get_or, drop, length-take, length-drop, get_or-replicate}
+use lib.Seq.{get_or-take, get_or-drop}
+use Rattle.std.specs.List.{list_all}
+use Rattle.std.proofs.lemmas.List.Sums.{AllPass-from_list_all, list_all-from_AllPass}
 use borrow.Author.Tests.{leb-true, le-leb, eqb-true, eq-eqb}
 use Rattle.rules.specs.declared.Kind.{Kind}
 use Rattle.rules.specs.declared.Kind.TheVariants.{Free, Item, Program}
 use Rattle.rules.specs.Table.{is_free, is_item, Slot, rightless, vacant, kind_formed, parts_formed, at}
 use Rattle.rules.proofs.Facts.{and_left, and_right, both, or-rest}
 use Rattle.rules.proofs.Bounded.{all_of}
+use Rattle.label.specs.declared.Group.{Group}
 use Rattle.label.specs.declared.Label.{Label}
-use Rattle.label.specs.Tags.{empty, has_tag, equal_of}
+use Rattle.label.specs.Tags.{empty, has_tag, equal_of, group_formed}
 use Rattle.label.specs.Words.{words}
 use Rattle.label.proofs.Laws.{equal-tag, equal_of_tags}
 use Rattle.label.proofs.Order.{no_tag as zero-tag}
@@ -24,9 +27,11 @@ use Rattle.entity.specs.Entity.{rights_of, bare, slot_of, entity_as}
 use Rattle.block.specs.Block.{all_zero, padded, block_at}
 use Rattle.block.proofs.Lists.{block-length, block-get}
 use Rattle.monitor.specs.declared.Table.{Table}
-use Rattle.monitor.specs.Table.{well_placed, place_formed, formed, hub, empty_table}
-use Rattle.monitor.proofs.Empty.{empty-entity, empty-count, empty_form}
-use Rattle.monitor.proofs.Form.{seen, entity-in, placed, at_seen, slots_length, bytes_length, rest, place, content_length, content_padded}
+use Rattle.monitor.specs.Table.{tags_in, most_in, Unused, well_placed, place_formed, groups_of, sized, formed, hub, empty_table}
+use Rattle.groups.specs.Groups.{with_numbers}
+use Rattle.groups.proofs.Numbers.{with_length, with_at}
+use Rattle.monitor.proofs.Empty.{empty-entity, empty-count, empty-none, empty_form}
+use Rattle.monitor.proofs.Form.{seen, entity-in, placed, at_seen, slots_length, bytes_length, groups_length, most_length, groups-formed, place, content_length, content_padded}
 use Rattle.claims.specs.InForm.{stands_in, NoTag, NoRight, Vacant, SlotInForm, InForm, FormSpelt, EmptySpelt, HiddenContentsAlone, LabelsAlike}
 use Rattle.claims.specs.Effects.{SlotsSpelt}
 
@@ -124,16 +129,43 @@ module _ (t : Table) (f : InForm t) (k : ℕ) (h : k < 32) where
   place-formed : place_formed t k ≡ true
   place-formed = placed t k h ∙ both _ _ (both _ _ (le-leb _ _ s.len) (kinds_hold (stands_in t k).kind refl)) zero-beyond
 
+-- ---- the groups that count, by their places in the arrays
+
+-- a place that no list has is never read
+abbrev pub no_group : Group
+no_group = record { tags = empty; most = 1 }
+
+module _ (t : Table) (eight : length t.groups ≡ 8) (numbers : length t.most ≡ 8) where
+  pub counted_length : t.count ≤ 8 → length (groups_of t) ≡ t.count
+  counted_length l = omega (arith, length-take t.count (with_numbers t.groups t.most), with_length t.groups t.most (eight ∙ sym numbers), eight)
+
+  pub counted-at : (i : ℕ) (d : Group) → i < t.count → i < 8 → get_or (groups_of t) i d ≡ record { tags = tags_in t i; most = most_in t i }
+  counted-at i d l m = get_or-take t.count (with_numbers t.groups t.most) i d l ∙ with_at t.groups t.most i empty 1 d (omega (arith, eight)) (omega (arith, numbers))
+
+  numbers_hold : t.count ≤ 8 → list_all group_formed (groups_of t) ≡ true → (i : ℕ) → i < t.count → (1 ≤ most_in t i) × (most_in t i ≤ 64)
+  numbers_hold l h i m =
+      let q : leb 1 (most_in t i) && leb (most_in t i) 64 ≡ true = rw (counted-at i no_group m (omega (arith, l, m))) at (AllPass-from_list_all group_formed (groups_of t) h i no_group (omega (arith, m, counted_length l))) in
+      (leb-true _ _ (and_left (leb 1 (most_in t i)) _ q), leb-true _ _ (and_right (leb 1 (most_in t i)) _ q))
+
+  numbers-formed : t.count ≤ 8 → ((i : ℕ) → i < t.count → (1 ≤ most_in t i) × (most_in t i ≤ 64)) → list_all group_formed (groups_of t) ≡ true
+  numbers-formed l h = list_all-from_AllPass group_formed (groups_of t) (λ i d m.
+      let k : i < t.count = omega (arith, m, counted_length l) in
+      rw (counted-at i d k (omega (arith, k, l))) (both _ _ (le-leb _ _ (h i k).0) (le-leb _ _ (h i k).1)))
+
 pub form_spelt : FormSpelt
-unfolding formed
+unfolding sized formed
 form_spelt = record {
   holds = λ t f. record {
     entities = slots_length t f;
     content = bytes_length t f;
-    groups = leb-true _ _ (and_left (leb t.count 8) _ (rest t f));
+    groups = groups_length t f;
+    most = most_length t f;
+    count = leb-true _ _ (and_left (leb t.count 8) _ (groups-formed t f));
+    numbers = numbers_hold t (groups_length t f) (most_length t f) (leb-true _ _ (and_left (leb t.count 8) _ (groups-formed t f))) (and_right (leb t.count 8) _ (groups-formed t f));
     slots = slot_in_form t f;
   };
-  enough = λ t f. both _ _ (both _ _ (eq-eqb _ _ f.entities) (eq-eqb _ _ f.content)) (both _ _ (le-leb _ _ f.groups) (all_of 32 (place_formed t) (place-formed t f)));
+  enough = λ t f. both _ _ (both _ _ (both _ _ (eq-eqb _ _ f.entities) (eq-eqb _ _ f.content)) (both _ _ (eq-eqb _ _ f.groups) (eq-eqb _ _ f.most)))
+      (both _ _ (both _ _ (le-leb _ _ f.count) (numbers-formed t f.groups f.most f.count f.numbers)) (all_of 32 (place_formed t) (place-formed t f)));
 }
 
 -- ---- what the rules read is what stands in the struct
@@ -173,9 +205,14 @@ labels_alike p t u a k h =
       id = sym (ap (λ (b : Slot words). b.rights.id) x) ∙ ap (λ r. r.id) s.rights ∙ ap (λ (b : Slot words). b.rights.id) y;
     }
 
+unused : (i : ℕ) → i < 8 → Unused empty_table i
+unfolding empty_table
+unused i h = record { tags = get_or-replicate 8 i empty empty h; most = get_or-replicate {A = ℕ} 8 i 1 1 h }
+
 pub empty_spelt : EmptySpelt
 empty_spelt = record {
-  form = form_spelt.holds empty_table (empty_form empty_table.groups empty_table.count (omega (arith, empty-count)));
+  form = form_spelt.holds empty_table (subst (λ t. formed t ≡ true) empty-none (empty_form [] (omega arith) refl));
   free = λ k h. ap (λ (e : Entity). e.kind) (empty-entity k h);
   count = empty-count;
+  places = unused;
 }

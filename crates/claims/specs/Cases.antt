@@ -1,24 +1,18 @@
 -- Document 01's cases P1 to P14 and the worked rounds at the struct that runs.
 -- Assumes nothing.
-use Rattle.std.specs.Prelude.{◌≡◌, true, List, [], ◌∷◌, ◌++◌, map, ℕ, zero, suc, ◌-◌, length, get_or, replicate}
+use Rattle.std.specs.Prelude.{◌≡◌, true, List, [], ◌∷◌, map, ℕ, zero, suc, get_or}
 use Rattle.rules.specs.Table.{Plain, accepted}
 use Rattle.rules.specs.Record.{answer}
 use Rattle.rules.specs.Runs.{trace, gained, next, answer_to, records}
-use Rattle.label.specs.Tags.{empty}
 use Rattle.label.specs.Words.{words}
 use Rattle.cases.specs.Cases.{table_of, Case, cases, Result, stated}
 use Rattle.cases.specs.Rounds.{Line, events, told, round_table, round, second_table, second, probe_table, probe, previewed}
 use Rattle.monitor.specs.declared.Table.{Table}
-use Rattle.monitor.specs.Table.{hub, empty_table}
+use Rattle.monitor.specs.Table.{hub, empty_with}
 
 -- The struct that holds a bare table's groups, and of its slots the first k; and all of its slots: each is written in turn
 unfoldable pub filled_to : Plain words → ℕ → Table
-filled_to p zero = record {
-  entities = empty_table.entities;
-  content = empty_table.content;
-  groups = p.groups ++ replicate (8 - length p.groups) empty;
-  count = length p.groups;
-}
+filled_to p zero = empty_with p.groups
 filled_to p (suc k) = hub.store (filled_to p k) k (p.slots k)
 
 abbrev pub table_holding : Plain words → Table

@@ -10,7 +10,7 @@ use Rattle.entity.specs.declared.Entity.{Entity}
 use Rattle.entity.specs.Entity.{free_entity}
 use Rattle.block.specs.Block.{block_at}
 use Rattle.monitor.specs.declared.Table.{Table}
-use Rattle.monitor.specs.Table.{formed, hub, empty_table}
+use Rattle.monitor.specs.Table.{most_in, Unused, formed, hub, empty_table}
 
 -- what stands in slot k of the 32, and byte j of its 64
 abbrev pub stands_in : Table → ℕ → Entity
@@ -43,11 +43,15 @@ pub record SlotInForm (t : Table) (k : ℕ) : Type 0 where
   pub item : (stands_in t k).kind ≡ Item → NoRight (stands_in t k)
   pub free : (stands_in t k).kind ≡ Free → Vacant (stands_in t k)
 
--- and at most 8 groups. The arrays of a table that runs always have 32 entities and 2,048 bytes
+-- and at most 8 groups, each with a number from 1 to 64. The arrays of a table that runs always have 32 entities, 2,048 bytes, 8 groups
+-- and 8 numbers
 pub record InForm (t : Table) : Type 0 where
   pub entities : length t.entities ≡ 32
   pub content : length t.content ≡ 2048
-  pub groups : t.count ≤ 8
+  pub groups : length t.groups ≡ 8
+  pub most : length t.most ≡ 8
+  pub count : t.count ≤ 8
+  pub numbers : (i : ℕ) → i < t.count → (1 ≤ most_in t i) × (most_in t i ≤ 64)
   pub slots : (k : ℕ) → k < 32 → SlotInForm t k
 
 -- 99 does not apply exactly where a table is in this form
@@ -55,11 +59,12 @@ pub record FormSpelt : Type 0 where
   pub holds : (t : Table) → formed t ≡ true → InForm t
   pub enough : (t : Table) → InForm t → formed t ≡ true
 
--- The empty table: in form, every slot free, no groups
+-- The empty table: in form, every slot free, no groups, the empty set and 1 in each of their places
 pub record EmptySpelt : Type 0 where
   pub form : InForm empty_table
   pub free : (k : ℕ) → k < 32 → (stands_in empty_table k).kind ≡ Free
   pub count : empty_table.count ≡ 0
+  pub places : (i : ℕ) → i < 8 → Unused empty_table i
 
 -- Two tables in form that differ only in the contents of entities bearing a tag: in each slot without it stand the very same
 -- entity and the very same 64 bytes

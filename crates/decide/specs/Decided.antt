@@ -8,7 +8,7 @@ use Rattle.rules.specs.Table.{is_program, Slot}
 use Rattle.rules.specs.Calls.{Call}
 use Rattle.rules.specs.Refusals.{Refusals, allow, ◌if◌else◌, first, refusals}
 use Rattle.rules.specs.Record.{audit_refusals}
-use Rattle.label.specs.declared.Label.{Label}
+use Rattle.label.specs.declared.Group.{Group}
 use Rattle.label.specs.Words.{words}
 use Rattle.entity.specs.declared.Entity.{Entity}
 use Rattle.entity.specs.Entity.{rights_of}
@@ -19,10 +19,10 @@ abbrev pub measured : Entity → Slot words
 measured e = record { kind = e.kind; sec = e.sec; int = e.int; rights = rights_of e; content = replicate e.len 0 }
 
 -- a call's refusals, 99 first, where the groups are gs; of the calls only hand asks about them
-abbrev pub seen_refusals : Seen → List Label → Call words → Refusals
+abbrev pub seen_refusals : Seen → List Group → Call words → Refusals
 seen_refusals s gs c = Formless if not s.formed else refusals gs (measured s.caller) (measured s.other) c
 
-abbrev pub decided : Seen → List Label → Call words → Outcome
+abbrev pub decided : Seen → List Group → Call words → Outcome
 decided s gs c = first (seen_refusals s gs c)
 
 -- 99 and 1, which all calls and audits have in common

@@ -1,2 +1,3 @@
+pub mod Groups
 pub mod Check
 pub mod Claims

@@ -13,8 +13,8 @@ use Rattle.label.proofs.Bytes.{bytes_length}
 use Rattle.label.proofs.Order.{subset_refl, subset_trans, empty_subset, union_left, union_right, union_least, with_subset, without_subset, equal_refl, common_mono, round_subset}
 use Rattle.label.proofs.Order.{empty-not, subset_has, equal_has, with_has, without_not, with_not, without_has}
 
-fewer : (m n : ℕ) → m ≤ n → leb n 1 ≡ true → leb m 1 ≡ true
-fewer m n h k = le-leb m 1 (omega (arith, leb-true n 1 k))
+fewer : (k m n : ℕ) → m ≤ n → leb n k ≡ true → leb m k ≡ true
+fewer k m n h e = le-leb m k (omega (arith, leb-true n k e))
 
 pub words_order : OrderLaws words
 unfolding common_in empty has_tag subset_of equal_of union_of with_tag without_tag common_of keeps_to bytes_of from_bytes
@@ -28,7 +28,7 @@ words_order = record {
   insert_below = λ p a r c. with_subset 64 p a.bits r.bits c.bits;
   remove_below = λ p a. without_subset 64 p a.bits;
   same_refl = λ a. equal_refl 64 a.bits;
-  keeps_less = λ g a b h k. fewer (common_in 64 a.bits g.bits) (common_in 64 b.bits g.bits) (common_mono 64 g.bits a.bits b.bits h) k;
+  keeps_less = λ g a b h k. fewer g.most (common_in 64 a.bits g.tags.bits) (common_in 64 b.bits g.tags.bits) (common_mono 64 g.tags.bits a.bits b.bits h) k;
   tail_length = λ p a. bytes_length 8 a.bits;
   entry_shows = λ k i j n m s p a b. round_subset 8 a.bits b.bits;
 }

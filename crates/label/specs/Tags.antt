@@ -1,7 +1,8 @@
 -- Sets of tags as numbers, tag n at weight 2 to the n: first for any number k of tags, then for the 64 tags of a label.
 -- Assumes nothing.
-use Rattle.std.specs.Prelude.{ℕ, zero, suc, ◌+◌, ◌*◌, ◌/◌, ◌%◌, ◌^◌, min, max, Bool, cond, List, [], ◌∷◌, leb, eqb}
+use Rattle.std.specs.Prelude.{ℕ, zero, suc, ◌+◌, ◌*◌, ◌/◌, ◌%◌, ◌^◌, min, max, Bool, cond, ◌&&◌, List, [], ◌∷◌, leb, eqb}
 use Rattle.rules.specs.Bounded.{all_below}
+use Rattle.label.specs.declared.Group.{Group}
 use Rattle.label.specs.declared.Label.{Label}
 
 -- ---- any number k of tags
@@ -93,9 +94,14 @@ with_digit a d = label_of (digit_in 64 a.bits d)
 unfoldable pub common_of : Label → Label → ℕ
 common_of a b = common_in 64 a.bits b.bits
 
--- An entity keeps to a group when the label of all that it holds has at most one tag in common with it
-unfoldable pub keeps_to : Label → Label → Bool
-keeps_to group a = leb (common_of a group) 1
+-- An entity keeps to a group when the label of all that it holds has at most as many tags in common with it as the group's
+-- number says (document 02, change 5; where the number is 1, document 01's "at most one tag in common with it")
+unfoldable pub keeps_to : Group → Label → Bool
+keeps_to group a = leb (common_of a group.tags) group.most
+
+-- that number is from 1 to 64
+abbrev pub group_formed : Group → Bool
+group_formed group = leb 1 group.most && leb group.most 64
 
 unfoldable pub bytes_of : Label → List ℕ
 bytes_of a = bytes_in 8 a.bits

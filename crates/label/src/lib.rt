@@ -1,12 +1,19 @@
-// A label: a set of tags 0 to 63, tag n at weight 2 to the n.
+// A label: a set of tags 0 to 63, tag n at weight 2 to the n. And conflict groups of such tags.
 #![tactic(auto)]
 
 ghost use Rattle.std.specs.Prelude.{◌≡◌, ◌^◌, cond, ltb};
-ghost use Rattle.label.specs.Tags.{empty, has_tag, subset_of, equal_of, is_empty, union_of, with_tag, without_tag, with_digit, common_of, keeps_to, bytes_of, from_bytes};
+ghost use Rattle.label.specs.Tags.{empty, has_tag, subset_of, equal_of, is_empty, union_of, with_tag, without_tag, with_digit, common_of, keeps_to, group_formed, bytes_of, from_bytes};
 
 #[derive(Clone, Copy, PartialEq, Eq)]
 pub struct Label {
     pub bits: u64,
+}
+
+// A conflict group: its tags, and the most of them that an entity may have.
+#[derive(Clone, Copy)]
+pub struct Group {
+    pub tags: Label,
+    pub most: u8,
 }
 
 // No tags. It is named for what it is: a `Default` would say no more, and less plainly.
@@ -86,17 +93,24 @@ pub fn with_digit(l: Label, d: u8) -> Label
 }
 
 // How many tags the two have in common.
-pub fn common(l: Label, group: Label) -> u32
-    ensures { result ≡ common_of l group }
+pub fn common(a: Label, b: Label) -> u32
+    ensures { result ≡ common_of a b }
 {
-    u64::count_ones(l.bits & group.bits)
+    u64::count_ones(a.bits & b.bits)
 }
 
-// Whether who holds all of l keeps to a conflict group: it has at most one tag of it.
-pub fn keeps(group: Label, l: Label) -> bool
+// Whether who holds all of l keeps to a conflict group: it has at most as many of its tags as the group's number says.
+pub fn keeps(group: Group, l: Label) -> bool
     ensures { result ≡ keeps_to group l }
 {
-    common(l, group) <= 1
+    common(l, group.tags) <= group.most as u32
+}
+
+// Whether a group has the form: its number is from 1 to 64.
+pub fn group_formed(group: Group) -> bool
+    ensures { result ≡ group_formed group }
+{
+    1 <= group.most && group.most <= 64
 }
 
 // The first where the test holds, else the second.

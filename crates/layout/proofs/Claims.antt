@@ -81,6 +81,7 @@ table_back t i = record {
   entities = map_back slot_as slot_entity entity_back t.entities i;
   content = t.content;
   groups = map_back bits_of label_of (λ l. refl) t.groups i;
+  most = t.most;
   count = t.count;
 }
 
@@ -90,6 +91,7 @@ struct_back s h i = record {
   slots = slots_back s.slots h i;
   content = s.content;
   groups = map_back label_of bits_of (λ n. refl) s.groups i;
+  most = s.most;
   count = s.count;
 }
 
@@ -155,4 +157,4 @@ groups_read (n ∷ l) (suc k) = groups_read l k
 
 pub struct_stands : StructStands
 unfolding table_of
-struct_stands = record { slot = λ s k. slots_read s.slots k; group = λ s k. groups_read s.groups k; table_back = table_back; struct_back = struct_back; unknown = unknown }
+struct_stands = record { slot = λ s k. slots_read s.slots k; group = λ s k. groups_read s.groups k; most = λ s k. refl; table_back = table_back; struct_back = struct_back; unknown = unknown }

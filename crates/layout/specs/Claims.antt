@@ -28,6 +28,7 @@ pub record SlotRead (s : HubSlot) (e : Entity) : Type 0 where
 pub record StructStands : Type 0 where
   pub slot : (s : HubTable) (k : ℕ) → SlotRead (get_or s.slots k (slot_as free_entity)) (get_or (table_of s).entities k free_entity)
   pub group : (s : HubTable) (k : ℕ) → (get_or (table_of s).groups k empty).bits ≡ get_or s.groups k 0
+  pub most : (s : HubTable) (k : ℕ) → get_or (table_of s).most k 1 ≡ get_or s.most k 1
   pub table_back : (t : Table) → table_of (struct_of t) ≡ t
   pub struct_back : (s : HubTable) → kinds_known s.slots ≡ true → struct_of (table_of s) ≡ s
   pub unknown : (s : HubTable) → kinds_known s.slots ≡ false → formed (table_of s) ≡ false

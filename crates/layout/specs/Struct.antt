@@ -60,7 +60,7 @@ abbrev pub bits_of : Label → ℕ
 bits_of l = l.bits
 
 unfoldable pub table_of : HubTable → Table
-table_of t = record { entities = map slot_entity t.slots; content = t.content; groups = map label_of t.groups; count = t.count }
+table_of t = record { entities = map slot_entity t.slots; content = t.content; groups = map label_of t.groups; most = t.most; count = t.count }
 
 unfoldable pub struct_of : Table → HubTable
-struct_of t = record { slots = map slot_as t.entities; content = t.content; groups = map bits_of t.groups; count = t.count }
+struct_of t = record { slots = map slot_as t.entities; content = t.content; groups = map bits_of t.groups; most = t.most; count = t.count }

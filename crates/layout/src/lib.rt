@@ -31,6 +31,7 @@ pub struct HubTable {
     pub slots: [HubSlot; 32],
     pub content: [u8; 2048],
     pub groups: [u64; 8],
+    pub most: [u8; 8],
     pub count: usize,
 }
 
@@ -94,6 +95,7 @@ pub fn read_table(t: &HubTable, table: &mut Table)
     fill(&t.slots, Entity::from, &mut table.entities);
     table.content = t.content;
     fill(&t.groups, |bits| Label { bits }, &mut table.groups);
+    table.most = t.most;
     table.count = t.count;
 }
 
@@ -104,6 +106,7 @@ pub fn write_table(table: &Table, out: &mut HubTable)
     fill(&table.entities, HubSlot::from, &mut out.slots);
     out.content = table.content;
     fill(&table.groups, |l| l.bits, &mut out.groups);
+    out.most = table.most;
     out.count = table.count;
 }
 
@@ -124,6 +127,7 @@ pub fn struct_of(table: &Table) -> HubTable
         slots: [HubSlot::from(entity::free_entity()); 32],
         content: [0u8; 2048],
         groups: [0u64; 8],
+        most: [1u8; 8],
         count: 0,
     };
     write_table(table, &mut out);

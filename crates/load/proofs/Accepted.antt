@@ -3,6 +3,7 @@
 use mathlib.Core.Path.{◌≡◌, refl, sym, ap, ap₂, subst, ◌∙◌}
 use mathlib.Core.Bool.{Bool, true, false, cond, not, ◌||◌}
 use mathlib.Core.List.{List, [], ◌∷◌, ◌++◌}
+use Rattle.std.specs.List.{list_all}
 use Rattle.std.specs.Prelude.{Option, None, Some, Ok, Err}
 use Rattle.std.specs.Option.{option_or, option_map_or}
 use Prim.Native.Nat.{ℕ, ◌+◌, ◌≤◌, ◌<◌}
@@ -11,28 +12,30 @@ use lib.Dec.{eqb, ltb}
 use lib.ListN.{length, length-append}
 use borrow.Author.Tests.{ltb-true}
 use Rattle.rules.specs.Table.{Slot, is_free, slot_keeps, slot_formed, keeps_all, parts_formed, accepted}
-use Rattle.rules.proofs.Facts.{and_right, both}
+use Rattle.rules.proofs.Facts.{and_left, and_right, both}
 use Rattle.rules.proofs.Bounded.{all_of}
-use Rattle.label.specs.declared.Label.{Label}
+use Rattle.label.specs.declared.Group.{Group}
+use Rattle.label.specs.Tags.{group_formed}
 use Rattle.label.specs.Words.{words}
 use Rattle.entity.specs.declared.Entity.{Entity}
 use Rattle.entity.specs.Entity.{rights_of, bare}
 use Rattle.block.specs.Block.{padded}
 use Rattle.monitor.specs.declared.Table.{Table}
-use Rattle.monitor.specs.Table.{entity_at, formed, groups_of, with_slot, hub, empty_table}
+use Rattle.monitor.specs.Table.{entity_at, formed, groups_of, with_slot, hub, empty_table, empty_with}
 use Rattle.monitor.proofs.Form.{hub_laws}
-use Rattle.monitor.proofs.Empty.{empty-entity, empty_form}
-use Rattle.values.specs.Values.{hex_set_of}
+use Rattle.monitor.proofs.Empty.{empty-entity, empty-none, empty_form}
 use Rattle.text.specs.Lines.{Lines, done, cut, line, fields_in}
+use Rattle.grouprows.specs.declared.GroupColumns.{GroupColumns}
+use Rattle.grouprows.specs.Groups.{group_of}
 use Rattle.rows.specs.declared.EntityColumns.{EntityColumns}
 use Rattle.rows.specs.Entities.{EntitySaid, entity_columns, entity_formed, entity_of}
-use Rattle.textblocks.specs.Blocks.{start, bad_line, names_at, rows_at, groups_at}
+use Rattle.textblocks.specs.Blocks.{start, bad_line, names_at, rows_at, groups_at, group_columns_in}
 use Rattle.rules.specs.declared.Refusal.{Refusal}
 use Rattle.rules.specs.declared.Refusal.TheVariants.{TextTooLong, BadLine, SlotTwice, EntityBreaksGroup}
-use Rattle.load.specs.Tables.{Stored, groups_from, empty_with, none_stored, breaks_at, with_entity, fill, groups_in, entities_on, entities_in, table_in}
+use Rattle.load.specs.Tables.{Stored, groups_from, none_stored, breaks_at, with_entity, fill, groups_in, entities_on, entities_in, table_in}
 use Rattle.load.specs.Load.{Verdict, refuse_at, verdict_of, on_accepted, load_of}
 use Rattle.load.specs.Claims.{LoadsAccepted}
-use Rattle.load.proofs.Rows.{empty-none}
+use Rattle.grouprows.proofs.Laws.{row_formed}
 use Rattle.load.proofs.EntityLines.{Sound, row_sound}
 
 -- ---- tables whose entities keep to their groups
@@ -44,10 +47,15 @@ pub record Keeping (t : Table) : Type 0 where
 keeping_accepted : (t : Table) → Keeping t → accepted hub t ≡ true
 keeping_accepted t k = both (formed t) _ k.form (all_of 32 (λ i. slot_keeps (groups_of t) (hub.slot t i)) k.keeps)
 
-empty_keeping : (gs : List Label) → length gs ≤ 8 → Keeping (empty_with gs)
+-- groups that a table may have
+record Allowed (gs : List Group) : Type 0 where
+  few : length gs ≤ 8
+  each : list_all group_formed gs ≡ true
+
+empty_keeping : (gs : List Group) → Allowed gs → Keeping (empty_with gs)
 unfolding empty_with
 empty_keeping gs h = record {
-  form = empty_form _ (length gs) h;
+  form = empty_form gs h.few h.each;
   keeps = λ i l. ap (λ (x : Entity). is_free x.kind || keeps_all (groups_of (empty_with gs)) (bare x)) (empty-entity i l);
 }
 
@@ -69,7 +77,7 @@ keep_more : (t : Table) (y : EntitySaid) → Keeping t → Sound y → keeps_all
     → Keeping (with_slot t y.slot y.entity (padded y.content))
 keep_more t y k s h = rw (stored t y s.len) (record {
   form = hub_laws.store_formed t y.slot (slot_in y) k.form s.slot f;
-  keeps = λ i l. ap₂ (λ (gs : List Label) (x : Slot words). slot_keeps gs x) (hub_laws.store_groups t y.slot (slot_in y) k.form s.slot f) (hub_laws.store_slot t y.slot (slot_in y) k.form s.slot f i l) ∙ go i l (eqb i y.slot);
+  keeps = λ i l. ap₂ (λ (gs : List Group) (x : Slot words). slot_keeps gs x) (hub_laws.store_groups t y.slot (slot_in y) k.form s.slot f) (hub_laws.store_slot t y.slot (slot_in y) k.form s.slot f i l) ∙ go i l (eqb i y.slot);
 })
   where
     f : slot_formed {A = words} (slot_in y) ≡ true
@@ -116,18 +124,26 @@ fill-keeps cs (line l ls) n s k = go (entity_of cs (fields_in l)) refl (λ u j. 
     go None e ih = k
     go (Some y) e ih = either_kept (is_free (entity_at s.table y.slot).kind) _ _ (ih (with_entity n s y) (entity-kept n s y (row_sound cs (fields_in l) y e) k)) k
 
--- at most 8 groups
-few : (ls : Lines) (gs : List Label) → length gs ≤ 8 → length (groups_from gs ls) ≤ 8
+-- at most 8 groups, each with a number from 1 to 64
+one_more : (gs : List Group) (g : Group) → list_all group_formed gs ≡ true → words.group_formed g ≡ true → list_all group_formed (gs ++ (g ∷ [])) ≡ true
+one_more [] g h k = both (words.group_formed g) true k refl
+one_more (x ∷ gs) g h k = both (words.group_formed x) _ (and_left (words.group_formed x) _ h) (one_more gs g (and_right (words.group_formed x) _ h) k)
+
+gathered : (cs : GroupColumns) (ls : Lines) (gs : List Group) → Allowed gs → Allowed (groups_from cs gs ls)
 unfolding groups_from
-few done gs h = h
-few cut gs h = h
-few (line l ls) gs h = go (hex_set_of l) (ltb (length gs) 8) refl (λ g k. few ls (gs ++ (g ∷ [])) (omega (arith, length-append gs (g ∷ []))))
+gathered cs done gs h = h
+gathered cs cut gs h = h
+gathered cs (line l ls) gs h = go (group_of cs (fields_in l)) (ltb (length gs) 8) refl refl (λ g. gathered cs ls (gs ++ (g ∷ [])))
   where
-    go : (o : Option Label) (b : Bool) → ltb (length gs) 8 ≡ b → ((g : Label) → length gs < 8 → length (groups_from (gs ++ (g ∷ [])) ls) ≤ 8)
-        → length (option_map_or (λ g. cond b (groups_from (gs ++ (g ∷ [])) ls) gs) o gs) ≤ 8
-    go None b e ih = h
-    go (Some g) true e ih = ih g (ltb-true (length gs) 8 e)
-    go (Some g) false e ih = h
+    go : (o : Option Group) (b : Bool) → group_of cs (fields_in l) ≡ o → ltb (length gs) 8 ≡ b
+        → ((g : Group) → Allowed (gs ++ (g ∷ [])) → Allowed (groups_from cs (gs ++ (g ∷ [])) ls))
+        → Allowed (option_map_or (λ g. cond b (groups_from cs (gs ++ (g ∷ [])) ls) gs) o gs)
+    go None b p e ih = h
+    go (Some g) true p e ih = ih g (record { few = omega (arith, ltb-true (length gs) 8 e, length-append gs (g ∷ [])); each = one_more gs g h.each (row_formed cs (fields_in l) g p) })
+    go (Some g) false p e ih = h
+
+none_allowed : Allowed []
+none_allowed = record { few = omega arith; each = refl }
 
 -- ---- loading
 
@@ -158,7 +174,7 @@ module _ (text : List ℕ) where
   unfolding table_in entities_in entities_on groups_in
   table_keeping b =
       fill-keeps (entity_columns (names_at text start)) (rows_at text start) 2 (none_stored (empty_with (groups_in text)))
-      (λ e. empty_keeping (groups_in text) (few (rows_at text (groups_at text)) [] (omega arith))) b
+      (λ e. empty_keeping (groups_in text) (gathered (group_columns_in text) (rows_at text (groups_at text)) [] none_allowed)) b
 
 pub loads_accepted : LoadsAccepted
 unfolding load_of
@@ -166,4 +182,4 @@ loads_accepted text = go (verdict_of text) refl
   where
     go : (v : Verdict) → verdict_of text ≡ v → accepted hub (on_accepted v (table_in text) empty_table) ≡ true
     go (Ok tt) e = keeping_accepted (table_in text) (table_keeping text (lines_good text e).1)
-    go (Err f) e = keeping_accepted empty_table (subst Keeping empty-none (empty_keeping [] (omega arith)))
+    go (Err f) e = keeping_accepted empty_table (subst Keeping empty-none (empty_keeping [] none_allowed))

@@ -2,26 +2,27 @@
 -- Assumes nothing.
 use mathlib.Core.Path.{◌≡◌, refl, sym, ap, ap₂, ◌∙◌}
 use mathlib.Core.Bool.{true, false}
-use mathlib.Core.List.{List, [], ◌∷◌, ◌++◌, append_assoc}
+use mathlib.Core.List.{List, [], ◌∷◌, ◌++◌, map, map-append, append_assoc}
 use Rattle.std.specs.Prelude.{Option, None, Some}
 use Prim.Native.Nat.{ℕ, suc, ◌+◌, ◌-◌, ◌≤◌, ◌<◌}
 use native.Mathlib.Omega.{arith}
-use lib.ListN.{length, set, replicate, length-append}
+use lib.ListN.{length, set, replicate, length-append, length-map}
 use lib.Seq.{set-append_seam}
 use borrow.Author.Tests.{lt-ltb, le-ltb}
 use Rattle.rules.specs.Table.{is_free}
-use Rattle.label.specs.declared.Label.{Label}
+use Rattle.label.specs.declared.Group.{Group}
 use Rattle.label.specs.Tags.{empty}
 use Rattle.monitor.specs.declared.Table.{Table}
-use Rattle.monitor.specs.Table.{entity_at, empty_table}
-use Rattle.values.specs.Values.{hex_set_of}
+use Rattle.monitor.specs.Table.{entity_at, empty_table, empty_with}
 use Rattle.text.specs.Lines.{Lines, done, cut, line, line_end, fields_in}
 use Rattle.text.proofs.Laws.{Over, line_ends, lines_end, next_whole, next_none}
+use Rattle.grouprows.specs.declared.GroupColumns.{GroupColumns}
+use Rattle.grouprows.specs.Groups.{group_of}
 use Rattle.rows.specs.declared.EntityColumns.{EntityColumns}
 use Rattle.rows.specs.Entities.{EntitySaid, entity_of}
 use Rattle.textblocks.specs.declared.Place.{Place}
 use Rattle.textblocks.specs.Blocks.{Inside, Steps, lines_at, rows_at}
-use Rattle.load.specs.Tables.{Stored, groups_from, empty_with, with_entity, fill}
+use Rattle.load.specs.Tables.{Stored, groups_from, with_entity, fill}
 
 -- ---- rows behind a line of names
 
@@ -40,51 +41,53 @@ module _ (text : List ℕ) (p q : Place) (h : Inside text p) where
 
 -- ---- groups
 
-module _ (gs : List Label) where
-  pub groups_over : (ls : Lines) → Over ls → groups_from gs ls ≡ gs
+module _ (cs : GroupColumns) (gs : List Group) where
+  pub groups_over : (ls : Lines) → Over ls → groups_from cs gs ls ≡ gs
   unfolding groups_from
   groups_over done h = refl
   groups_over cut h = refl
   groups_over (line l ls) h = absurd h
 
   module _ {all : Lines} {l : List ℕ} {ls : Lines} (w : all ≡ line l ls) where
-    pub groups_none : hex_set_of l ≡ None → groups_from gs all ≡ gs
+    pub groups_none : group_of cs (fields_in l) ≡ None → groups_from cs gs all ≡ gs
     unfolding groups_from
     groups_none e = rw (w, groups_from, e)
 
-    module _ (g : Label) (e : hex_set_of l ≡ Some g) where
-      pub groups_full : 8 ≤ length gs → groups_from gs all ≡ gs
+    module _ (g : Group) (e : group_of cs (fields_in l) ≡ Some g) where
+      pub groups_full : 8 ≤ length gs → groups_from cs gs all ≡ gs
       unfolding groups_from
       groups_full k = rw (w, groups_from, e, le-ltb _ _ k)
 
-      pub groups_step : length gs < 8 → groups_from gs all ≡ groups_from (gs ++ (g ∷ [])) ls
+      pub groups_step : length gs < 8 → groups_from cs gs all ≡ groups_from cs (gs ++ (g ∷ [])) ls
       unfolding groups_from
       groups_step k = rw (w, groups_from, e, lt-ltb _ _ k)
 
-pub empty-none : empty_with [] ≡ empty_table
-unfolding empty_with empty_table
-empty-none = refl
-
-pub empty-count : (gs : List Label) → (empty_with gs).count ≡ length gs
+pub empty-count : (gs : List Group) → (empty_with gs).count ≡ length gs
 unfolding empty_with
 empty-count gs = refl
 
-pub empty-more : (t : Table) (gs : List Label) (g : Label) → t ≡ empty_with gs → length gs < 8
-    → record { entities = t.entities; content = t.content; groups = set t.groups t.count g; count = t.count + 1 } ≡ empty_with (gs ++ (g ∷ []))
-unfolding empty_with
-empty-more t gs g e h =
+-- one group more: its tags and its number each go to the first place that is not used
+seam : {A : Type 0} (f : Group → A) (d : A) (gs : List Group) (g : Group) → length gs < 8
+    → set (map f gs ++ replicate (8 - length gs) d) (length gs) (f g) ≡ map f (gs ++ (g ∷ [])) ++ replicate (8 - length (gs ++ (g ∷ []))) d
+seam f d gs g h =
     let a : 8 - length gs ≡ suc (7 - length gs) = omega arith in
     let b : 8 - length (gs ++ (g ∷ [])) ≡ 7 - length gs = omega (arith, length-append gs (g ∷ [])) in
-    let p : set (gs ++ replicate (8 - length gs) empty) (length gs) g ≡ (gs ++ (g ∷ [])) ++ replicate (8 - length (gs ++ (g ∷ []))) empty =
-    rw (a, b, append_assoc) (set-append_seam gs empty (replicate (7 - length gs) empty) g) in
+    rw (a, b, map-append, append_assoc, ← length-map gs f) (set-append_seam (map f gs) d (replicate (7 - length (map f gs)) d) (f g))
+
+pub empty-more : (t : Table) (gs : List Group) (g : Group) → t ≡ empty_with gs → length gs < 8
+    → record { entities = t.entities; content = t.content; groups = set t.groups t.count g.tags; most = set t.most t.count g.most; count = t.count + 1 } ≡ empty_with (gs ++ (g ∷ []))
+unfolding empty_with
+empty-more t gs g e h =
+    let p = seam (λ x. x.tags) empty gs g h in
+    let n = seam (λ x. x.most) 1 gs g h in
     let q : length gs + 1 ≡ length (gs ++ (g ∷ [])) = omega (arith, length-append gs (g ∷ [])) in
-    rw e (λ i. record { entities = empty_table.entities; content = empty_table.content; groups = p i; count = q i })
+    rw e (λ i. record { entities = empty_table.entities; content = empty_table.content; groups = p i; most = n i; count = q i })
 
 -- what a loop over groups holds: a table with those so far, and the rows that are left
-pub record Gathered (all : Lines) (t : Table) (left : Lines) : Type 0 where
-  pub gs : List Label
+pub record Gathered (cs : GroupColumns) (all : Lines) (t : Table) (left : Lines) : Type 0 where
+  pub gs : List Group
   pub kept : t ≡ empty_with gs
-  pub says : groups_from gs left ≡ groups_from [] all
+  pub says : groups_from cs gs left ≡ groups_from cs [] all
 
 -- ---- entities
 

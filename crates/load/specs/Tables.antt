@@ -1,32 +1,29 @@
 -- Document 01, 'The text': the entities and groups of a text whose lines have the form, 16 and 17.
 -- Assumes nothing.
-use Rattle.std.specs.Prelude.{ℕ, ◌+◌, ◌-◌, Bool, Option, None, Some, cond, List, [], ◌∷◌, ◌++◌, length, replicate, ltb}
+use Rattle.std.specs.Prelude.{ℕ, ◌+◌, Bool, Option, None, Some, cond, List, [], ◌∷◌, ◌++◌, length, ltb}
 use Rattle.std.specs.Option.{option_or, option_map_or}
 use Rattle.rules.specs.Table.{is_free, keeps_all}
-use Rattle.label.specs.declared.Label.{Label}
-use Rattle.label.specs.Tags.{empty}
+use Rattle.label.specs.declared.Group.{Group}
 use Rattle.entity.specs.Entity.{bare}
 use Rattle.block.specs.Block.{padded}
 use Rattle.monitor.specs.declared.Table.{Table}
-use Rattle.monitor.specs.Table.{entity_at, groups_of, with_slot, empty_table}
-use Rattle.values.specs.Values.{hex_set_of}
+use Rattle.monitor.specs.Table.{entity_at, groups_of, with_slot, empty_with}
 use Rattle.text.specs.Lines.{Lines, done, cut, line, fields_in}
+use Rattle.grouprows.specs.declared.GroupColumns.{GroupColumns}
+use Rattle.grouprows.specs.Groups.{group_of}
 use Rattle.rows.specs.declared.EntityColumns.{EntityColumns}
 use Rattle.rows.specs.Entities.{EntitySaid, entity_columns, entity_of}
-use Rattle.textblocks.specs.Blocks.{start, groups_at, names_at, rows_at}
+use Rattle.textblocks.specs.Blocks.{start, groups_at, names_at, rows_at, group_columns_in}
 use Rattle.load.specs.declared.Marks.{Marks}
 
 -- ---- the groups
 
--- the groups of rows, after those that are held, up to a row that is no set, as an empty line is none; at most 8
-unfoldable pub groups_from : List Label → Lines → List Label
-groups_from gs done = gs
-groups_from gs cut = gs
-groups_from gs (line l ls) = option_map_or (λ g. cond (ltb (length gs) 8) (groups_from (gs ++ (g ∷ [])) ls) gs) (hex_set_of l) gs
-
--- the empty table with groups, which it has in 8 places, and how many there are
-unfoldable pub empty_with : List Label → Table
-empty_with gs = record { entities = empty_table.entities; content = empty_table.content; groups = gs ++ replicate (8 - length gs) empty; count = length gs }
+module _ (cs : GroupColumns) where
+  -- the groups of rows, after those that are held, up to a row that is no group, as an empty line is none; at most 8
+  unfoldable pub groups_from : List Group → Lines → List Group
+  groups_from gs done = gs
+  groups_from gs cut = gs
+  groups_from gs (line l ls) = option_map_or (λ g. cond (ltb (length gs) 8) (groups_from (gs ++ (g ∷ [])) ls) gs) (group_of cs (fields_in l)) gs
 
 -- ---- the entities, 16 and 17
 
@@ -67,8 +64,8 @@ module _ (cs : EntityColumns) where
 -- ---- the table of a text
 
 module _ (text : List ℕ) where
-  unfoldable pub groups_in : List Label
-  groups_in = groups_from [] (rows_at text (groups_at text))
+  unfoldable pub groups_in : List Group
+  groups_in = groups_from (group_columns_in text) [] (rows_at text (groups_at text))
 
   -- the entities, stored in a table; the first row is line 2
   unfoldable pub entities_on : Table → Stored

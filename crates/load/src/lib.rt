@@ -3,11 +3,12 @@
 
 ghost use Rattle.std.specs.Prelude.{◌≡◌, [], Ok};
 ghost use Rattle.rules.specs.declared.Refusal.TheVariants.{BadLine, SlotTwice, EntityBreaksGroup};
-ghost use Rattle.monitor.specs.Table.{empty_table};
+ghost use Rattle.monitor.specs.Table.{empty_table, empty_with};
 ghost use Rattle.textblocks.specs.Blocks.{lines_at, bad_line};
-ghost use Rattle.load.specs.Tables.{groups_from, empty_with, none_stored, fill, groups_in, stored, entities_on};
+ghost use Rattle.load.specs.Tables.{groups_from, none_stored, fill, groups_in, stored, entities_on};
 ghost use Rattle.load.specs.Load.{verdict_number, verdict_line, refuse_at, load_of};
 
+use grouprows::GroupColumns;
 use monitor::Table;
 use rows::EntityColumns;
 use rules::Refusal;
@@ -37,19 +38,20 @@ pub struct Loaded {
 }
 
 // The groups of rows go to an empty table, in place. The table counts its groups, in fixed memory; a ninth ends them.
-fn group_rows(rows: Rest<'_>, table: &mut Table)
+fn group_rows(rows: Rest<'_>, columns: GroupColumns, table: &mut Table)
     requires { table.old ≡ empty_table }
-    ensures { table.new ≡ empty_with (groups_from [] (lines_at rows.entry.text.now rows.entry.place.at)) }
+    ensures { table.new ≡ empty_with (groups_from columns [] (lines_at rows.entry.text.now rows.entry.place.at)) }
 {
     for (_, row) in rows {
-        let Some(group) = values::hex_set(row) else {
+        let Some(group) = grouprows::group_row(columns, row) else {
             break;
         };
         let count = table.count;
         if 8 <= count {
             break;
         }
-        table.groups[count] = group;
+        table.groups[count] = group.tags;
+        table.most[count] = group.most;
         table.count = count + 1;
     }
 }
@@ -59,9 +61,10 @@ fn groups_in(text: &[u8], table: &mut Table)
     requires { table.old ≡ empty_table }
     ensures { table.new ≡ empty_with (groups_in text.now) }
 {
+    let columns = textblocks::group_columns_in(text);
     let mut rows = textblocks::groups(text);
     rows.next();
-    group_rows(rows, table);
+    group_rows(rows, columns, table);
 }
 
 // The entities of rows go to a table one after the other, in place.

@@ -1,23 +1,26 @@
--- A table without entities has the form, whatever its groups.
+-- A table without entities has the form where its groups have theirs.
 -- Assumes nothing.
 use mathlib.Core.Path.{◌≡◌, refl, ap, ◌∙◌}
 use mathlib.Core.Bool.{true, ◌&&◌}
-use mathlib.Core.List.{List}
+use mathlib.Core.List.{List, [], ◌++◌, map}
 use Prim.Native.Nat.{ℕ, zero, suc, ◌*◌, ◌-◌, ◌≤◌, ◌<◌}
-use lib.ListN.{length, get_or, take, drop, replicate, length-replicate, get_or-replicate}
+use native.Mathlib.Omega.{arith}
+use lib.Dec.{leb}
+use lib.ListN.{length, get_or, take, drop, replicate, length-append, length-map, length-replicate, get_or-replicate}
 use borrow.Author.Tests.{lt-ltb, eq-eqb, le-leb}
+use Rattle.std.specs.List.{list_all}
 use Rattle.rules.specs.Table.{parts_formed}
 use Rattle.rules.proofs.Facts.{both}
 use Rattle.rules.proofs.Bounded.{all_of}
-use Rattle.label.specs.declared.Label.{Label}
-use Rattle.label.specs.Tags.{empty, equal_of}
+use Rattle.label.specs.declared.Group.{Group}
+use Rattle.label.specs.Tags.{group_formed, empty, equal_of}
 use Rattle.label.proofs.Order.{equal_refl}
 use Rattle.entity.specs.declared.Entity.{Entity}
 use Rattle.entity.specs.Entity.{free_entity, bare}
 use Rattle.block.specs.Block.{all_zero, block_at}
 use Rattle.std.proofs.lemmas.List.{drop-replicate}
-use Rattle.monitor.specs.declared.Table.{Table}
-use Rattle.monitor.specs.Table.{place_formed, formed, no_content, empty_table}
+use Rattle.monitor.specs.Table.{place_formed, groups_of, sized, formed, no_content, empty_table, empty_with}
+use Rattle.groups.proofs.Numbers.{with_front}
 use Rattle.monitor.proofs.Form.{placed}
 
 pub empty-entity : (k : ℕ) → k < 32 → get_or empty_table.entities k free_entity ≡ free_entity
@@ -49,17 +52,35 @@ pub empty-count : empty_table.count ≡ 0
 unfolding empty_table
 empty-count = refl
 
-module _ (gs : List Label) (n : ℕ) (few : n ≤ 8) where
-  vacated : Table
-  vacated = record { entities = empty_table.entities; content = empty_table.content; groups = gs; count = n }
+pub empty-none : empty_with [] ≡ empty_table
+unfolding empty_with empty_table
+empty-none = refl
 
-  empty_place : (k : ℕ) → k < 32 → place_formed vacated k ≡ true
-  unfolding vacated
-  empty_place k h =
-      placed vacated k h
-      ∙ ap (λ (x : Entity). parts_formed (bare x) x.len && all_zero (drop x.len (block_at empty_table.content k))) (empty-entity k h)
-      ∙ both _ _ free_formed (empty_block k h)
+module _ (gs : List Group) where
+  pub empty_groups : groups_of (empty_with gs) ≡ gs
+  unfolding empty_with
+  empty_groups = with_front gs _ _
 
-  pub empty_form : formed (record { entities = empty_table.entities; content = empty_table.content; groups = gs; count = n }) ≡ true
-  unfolding formed vacated
-  empty_form = both _ _ (both _ _ (eq-eqb _ _ empty-slots) (eq-eqb _ _ empty-bytes)) (both _ _ (le-leb n 8 few) (all_of 32 (place_formed vacated) empty_place))
+  module _ (few : length gs ≤ 8) where
+    padded-places : {A : Type 0} (f : Group → A) (d : A) → length (map f gs ++ replicate (8 - length gs) d) ≡ 8
+    padded-places f d = omega (arith, length-append (map f gs) (replicate (8 - length gs) d), length-map gs f, length-replicate (8 - length gs) d)
+
+    empty_place : (k : ℕ) → k < 32 → place_formed (empty_with gs) k ≡ true
+    unfolding empty_with
+    empty_place k h =
+        placed (empty_with gs) k h
+        ∙ ap (λ (x : Entity). parts_formed (bare x) x.len && all_zero (drop x.len (block_at empty_table.content k))) (empty-entity k h)
+        ∙ both _ _ free_formed (empty_block k h)
+
+    empty_sizes : sized (empty_with gs) ≡ true
+    unfolding sized empty_with
+    empty_sizes = both _ _ (both _ _ (eq-eqb _ _ empty-slots) (eq-eqb _ _ empty-bytes))
+        (both _ _ (eq-eqb _ _ (padded-places (λ g. g.tags) empty)) (eq-eqb _ _ (padded-places (λ g. g.most) 1)))
+
+    empty_counted : leb (empty_with gs).count 8 ≡ true
+    unfolding empty_with
+    empty_counted = le-leb _ 8 few
+
+    pub empty_form : list_all group_formed gs ≡ true → formed (empty_with gs) ≡ true
+    unfolding formed
+    empty_form e = both _ _ empty_sizes (both _ _ (both _ _ empty_counted (ap (list_all group_formed) empty_groups ∙ e)) (all_of 32 (place_formed (empty_with gs)) empty_place))

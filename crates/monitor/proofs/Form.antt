@@ -9,11 +9,13 @@ use lib.Dec.{ltb, leb, eqb}
 use lib.ListN.{length, get_or, set, drop, length-set}
 use lib.Seq.{get_or-set_same, get_or-set_other}
 use borrow.Author.Tests.{ltb-true, ltb-false, lt-ltb, leb-true, eqb-true, eqb-false, eq-eqb}
+use Rattle.std.specs.List.{list_all}
 use Rattle.rules.specs.Bounded.{all_below}
 use Rattle.rules.specs.Table.{Slot, parts_formed, slot_formed, at}
 use Rattle.rules.specs.Laws.{TableLaws}
 use Rattle.rules.proofs.Facts.{and_left, and_right, both, either}
 use Rattle.rules.proofs.Bounded.{all-at, all_of}
+use Rattle.label.specs.Tags.{group_formed}
 use Rattle.label.specs.Words.{words}
 use Rattle.label.proofs.Words.{words_order}
 use Rattle.entity.specs.declared.Entity.{Entity}
@@ -22,7 +24,7 @@ use Rattle.block.specs.Block.{all_zero, no_block, padded, block_at, with_block}
 use Rattle.block.proofs.Lists.{block-length, block_out, set_length, set_same, set_other, zero-drop}
 use Rattle.block.proofs.Padding.{cut_length, cut_padded, padded-length, padded_front, padded_rest}
 use Rattle.monitor.specs.declared.Table.{Table}
-use Rattle.monitor.specs.Table.{entity_at, well_placed, place_formed, formed, groups_of, with_slot, hub}
+use Rattle.monitor.specs.Table.{entity_at, well_placed, place_formed, groups_of, sized, formed, with_slot, hub}
 
 -- a slot that a number names, by its entity and its block
 abbrev pub seen : Table → ℕ → Slot words
@@ -43,21 +45,36 @@ at_seen t i = either (ltb i 32) (λ e. rw e) (λ e. rw e)
 -- ---- a table in form
 
 module _ (t : Table) (f : formed t ≡ true) where
-  pub slots_length : length t.entities ≡ 32
+  pub sizes : sized t ≡ true
   unfolding formed
-  slots_length = eqb-true _ _ (and_left (eqb (length t.entities) 32) _ (and_left (eqb (length t.entities) 32 && eqb (length t.content) 2048) _ f))
+  sizes = and_left (sized t) _ f
+
+  pub slots_length : length t.entities ≡ 32
+  unfolding sized
+  slots_length = eqb-true _ _ (and_left (eqb (length t.entities) 32) _ (and_left (eqb (length t.entities) 32 && eqb (length t.content) 2048) _ sizes))
 
   pub bytes_length : length t.content ≡ 2048
-  unfolding formed
-  bytes_length = eqb-true _ _ (and_right (eqb (length t.entities) 32) _ (and_left (eqb (length t.entities) 32 && eqb (length t.content) 2048) _ f))
+  unfolding sized
+  bytes_length = eqb-true _ _ (and_right (eqb (length t.entities) 32) _ (and_left (eqb (length t.entities) 32 && eqb (length t.content) 2048) _ sizes))
 
-  pub rest : leb t.count 8 && all_below 32 (place_formed t) ≡ true
+  pub groups_length : length t.groups ≡ 8
+  unfolding sized
+  groups_length = eqb-true _ _ (and_left (eqb (length t.groups) 8) _ (and_right (eqb (length t.entities) 32 && eqb (length t.content) 2048) _ sizes))
+
+  pub most_length : length t.most ≡ 8
+  unfolding sized
+  most_length = eqb-true _ _ (and_right (eqb (length t.groups) 8) _ (and_right (eqb (length t.entities) 32 && eqb (length t.content) 2048) _ sizes))
+
+  rest : (leb t.count 8 && list_all group_formed (groups_of t)) && all_below 32 (place_formed t) ≡ true
   unfolding formed
-  rest = and_right (eqb (length t.entities) 32 && eqb (length t.content) 2048) _ f
+  rest = and_right (sized t) _ f
+
+  pub groups-formed : leb t.count 8 && list_all group_formed (groups_of t) ≡ true
+  groups-formed = and_left (leb t.count 8 && list_all group_formed (groups_of t)) _ rest
 
   pub place : (i : ℕ) → place_formed t i ≡ true
   unfolding place_formed entity_at no_block
-  place i = either (ltb i 32) (λ e. all-at 32 (place_formed t) (and_right (leb t.count 8) _ rest) i (ltb-true i 32 e))
+  place i = either (ltb i 32) (λ e. all-at 32 (place_formed t) (and_right (leb t.count 8 && list_all group_formed (groups_of t)) _ rest) i (ltb-true i 32 e))
       (λ e. rw (e, block_out t.content i (ltb-false i 32 e), words_order.same_refl _) (zero-drop 0 64))
 
   module _ (i : ℕ) where
@@ -91,7 +108,7 @@ module _ (t : Table) (f : formed t ≡ true) where
 -- ---- a table with one slot written
 
 module _ (t : Table) (k : ℕ) (e : Entity) (b : List ℕ) (f : formed t ≡ true) (h : k < 32) (hb : length b ≡ 64) where
-  new : with_slot t k e b ≡ record { entities = set t.entities k e; content = with_block t.content k b; groups = t.groups; count = t.count }
+  new : with_slot t k e b ≡ record { entities = set t.entities k e; content = with_block t.content k b; groups = t.groups; most = t.most; count = t.count }
   unfolding with_slot
   new = rw (lt-ltb k 32 h)
 
@@ -109,17 +126,17 @@ module _ (t : Table) (k : ℕ) (e : Entity) (b : List ℕ) (f : formed t ≡ tru
       go true q = rw (eqb-true i k q) (set_same t.content b k h (bytes_length t f) hb)
       go false q = set_other t.content b k h (bytes_length t f) hb i (eqb-false i k q)
 
-  new_slots : length (with_slot t k e b).entities ≡ 32
-  new_slots = rw new (length-set t.entities k e ∙ slots_length t f)
-
-  new_bytes : length (with_slot t k e b).content ≡ 2048
-  new_bytes = rw new (set_length t.content b k h (bytes_length t f) hb)
+  new_sizes : sized (with_slot t k e b) ≡ true
+  unfolding sized
+  new_sizes = rw new (both _ _
+      (both _ _ (eq-eqb _ _ (length-set t.entities k e ∙ slots_length t f)) (eq-eqb _ _ (set_length t.content b k h (bytes_length t f) hb)))
+      (both _ _ (eq-eqb _ _ (groups_length t f)) (eq-eqb _ _ (most_length t f))))
 
   new_groups : groups_of (with_slot t k e b) ≡ groups_of t
   new_groups = rw new
 
-  new_count : (with_slot t k e b).count ≡ t.count
-  new_count = rw new
+  new_groups_formed : leb (with_slot t k e b).count 8 && list_all group_formed (groups_of (with_slot t k e b)) ≡ true
+  new_groups_formed = rw new (groups-formed t f)
 
 module _ (t : Table) (k : ℕ) (a : Slot words) (f : formed t ≡ true) (h : k < 32) (g : slot_formed a ≡ true) where
   short : length a.content ≤ 64
@@ -152,9 +169,8 @@ module _ (t : Table) (k : ℕ) (a : Slot words) (f : formed t ≡ true) (h : k <
 
   stored_formed : formed (hub.store t k a) ≡ true
   unfolding formed u n b
-  stored_formed = both _ _
-      (both _ _ (eq-eqb _ _ (new_slots t k n b f h (padded-length a.content))) (eq-eqb _ _ (new_bytes t k n b f h (padded-length a.content))))
-      (both _ _ (ap (λ (m : ℕ). leb m 8) (new_count t k n b f h (padded-length a.content)) ∙ and_left (leb t.count 8) _ (rest t f)) (all_of 32 (place_formed u) one))
+  stored_formed = both _ _ (new_sizes t k n b f h (padded-length a.content))
+      (both _ _ (new_groups_formed t k n b f h (padded-length a.content)) (all_of 32 (place_formed u) one))
     where
       go : (i : ℕ) → i < 32 → (y : Bool) → well_placed (cond y n (get_or t.entities i free_entity)) (cond y b (block_at t.content i)) ≡ true
       go i l true = both _ _ g (padded_rest a.content short)

@@ -1,2 +1,3 @@
 pub mod Watering
 pub mod Columns
+pub mod Trials

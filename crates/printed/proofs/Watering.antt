@@ -2,11 +2,10 @@
 -- Assumes nothing.
 use mathlib.Core.Path.{◌≡◌, refl, ap, sym, ◌∙◌}
 use mathlib.Core.Bool.{Bool, true, false, cond}
-use mathlib.Core.List.{List, ◌∷◌, ◌++◌}
+use mathlib.Core.List.{List, [], ◌∷◌, ◌++◌}
 use Prim.Native.Nat.{ℕ, ◌<◌}
 use native.Mathlib.Omega.{arith}
 use lib.Dec.{ltb, eqb}
-use lib.ListN.{replicate}
 use borrow.Author.Tests.{ltb-true, eqb-true}
 use Rattle.rules.specs.Table.{Slot, free, plain, slot_formed}
 use Rattle.rules.specs.Refusals.{step}
@@ -26,18 +25,19 @@ use Rattle.cases.specs.Rounds.{events, told, round_table, round}
 use Rattle.cases.proofs.Sure.{round_told}
 use Rattle.cases.proofs.Cases.{computed, round_holds}
 use Rattle.monitor.specs.declared.Table.{Table}
-use Rattle.monitor.specs.Table.{formed, entity_at, with_slot, empty_table, hub}
+use Rattle.monitor.specs.Table.{formed, entity_at, with_slot, empty_table, empty_with, hub}
 use Rattle.monitor.proofs.Form.{hub_laws}
 use Rattle.monitor.proofs.Empty.{empty-entity, empty_form}
 use Rattle.text.specs.Bytes.{eq_bytes, index_of}
 use Rattle.values.specs.Values.{digit_of, decimal_from, decimal_of, set_from, hex_set_of, pairs_from, data_of}
 use Rattle.text.specs.Lines.{before, lines_of, line_end, line_at, next_line, ahead, fields_in, has_names, names_once, column_of}
 use Rattle.callrows.specs.Calls.{call_columns, call_named, data_if, show_buffer, call_of}
+use Rattle.grouprows.specs.Groups.{group_columns, group_of}
 use Rattle.rows.specs.Entities.{kind_named, entity_formed, entity_columns, entity_in, entity_of}
 use Rattle.std.specs.Prelude.{Ok}
-use Rattle.textblocks.specs.Blocks.{bytes_past, lines_past, start, past_empty, groups_at, calls_at, rows_bad, block_bad, entities_bad, groups_bad, calls_bad, bad_line}
+use Rattle.textblocks.specs.Blocks.{bytes_past, lines_past, start, past_empty, groups_at, calls_at, group_columns_in, rows_bad, block_bad, entities_bad, groups_bad, calls_bad, bad_line}
 use Rattle.textblocks.specs.CallsIn.{calls_from, call_columns_in, calls_of}
-use Rattle.load.specs.Tables.{groups_from, empty_with, breaks_at, with_entity, fill, groups_in, entities_on, entities_in, table_in}
+use Rattle.load.specs.Tables.{groups_from, breaks_at, with_entity, fill, groups_in, entities_on, entities_in, table_in}
 use Rattle.load.specs.Load.{refuse_at, verdict_of, load_of}
 use Rattle.print.specs.Lines.{digit_text, hex_text, data_text, call_line}
 use Rattle.round.specs.Round.{names_line, answer_line, output_of}
@@ -46,7 +46,7 @@ use Rattle.printed.specs.Watering.{watering, watering_prints, WateringPrinted}
 
 -- what a text is read with
 unfoldable pub reading : ℕ
-unfolding computed eq_bytes index_of digit_of digit_in with_digit decimal_from decimal_of set_from hex_set_of pairs_from data_of before lines_of line_end line_at next_line ahead fields_in has_names names_once column_of call_columns call_named data_if show_buffer call_of kind_named entity_formed entity_columns entity_in entity_of bytes_past lines_past start past_empty groups_at calls_at rows_bad block_bad entities_bad groups_bad calls_bad bad_line calls_from call_columns_in calls_of groups_from empty_with breaks_at with_entity fill groups_in entities_on entities_in table_in refuse_at verdict_of entity_at with_slot empty_table
+unfolding computed eq_bytes index_of digit_of digit_in with_digit decimal_from decimal_of set_from hex_set_of pairs_from data_of before lines_of line_end line_at next_line ahead fields_in has_names names_once column_of call_columns call_named data_if show_buffer call_of group_columns group_of kind_named entity_formed entity_columns entity_in entity_of bytes_past lines_past start past_empty groups_at calls_at group_columns_in rows_bad block_bad entities_bad groups_bad calls_bad bad_line calls_from call_columns_in calls_of groups_from empty_with breaks_at with_entity fill groups_in entities_on entities_in table_in refuse_at verdict_of entity_at with_slot empty_table
 reading = 0
 
 accepted : verdict_of watering ≡ Ok tt
@@ -68,7 +68,7 @@ s2 : Slot words
 s2 = round_table.slots 2
 
 t0 : Table
-t0 = record { entities = empty_table.entities; content = empty_table.content; groups = label_of 3 ∷ replicate 7 (label_of 0); count = 1 }
+t0 = empty_with (record { tags = label_of 3; most = 1 } ∷ [])
 
 t1 : Table
 t1 = hub.store t0 0 s0
@@ -92,7 +92,7 @@ slot-formed k l = (plain_laws words).slot-formed round_table (and_left ((plain w
 
 f0 : formed t0 ≡ true
 unfolding t0
-f0 = empty_form _ 1 (omega arith)
+f0 = empty_form _ (omega arith) refl
 
 f1 : formed t1 ≡ true
 unfolding t1 s0
@@ -117,7 +117,7 @@ three i = go (eqb i 0) refl (eqb i 1) refl (eqb i 2) refl
     go false p false q false r = rw (p, q, r)
 
 slots : (i : ℕ) → i < 32 → hub.slot t3 i ≡ round_table.slots i
-unfolding t0 t1 t2 t3 s0 s1 s2
+unfolding t0 t1 t2 t3 s0 s1 s2 empty_with
 slots i l =
     hub_laws.store_slot t2 2 s2 f2 (omega arith) (slot-formed 2 (omega arith)) i l
     ∙ ap (cond (eqb i 2) s2) (hub_laws.store_slot t1 1 s1 f1 (omega arith) (slot-formed 1 (omega arith)) i l
@@ -128,7 +128,7 @@ slots i l =
     empty i l = ap (λ (e : Entity). slot_of e (block_at empty_table.content i)) (empty-entity i l)
 
 held : HoldSame hub (plain words) t3 round_table
-unfolding t0 t1 t2 t3 s0 s1 s2 with_slot
+unfolding t0 t1 t2 t3 s0 s1 s2 with_slot empty_with
 held = record {
   left = f3;
   right = and_left ((plain words).formed round_table) _ round_holds.accepted;

@@ -1,4 +1,4 @@
--- Document 01, 'The text': the names of the columns of the entities and of the groups.
+-- Document 01, 'The text': the names of the columns of the entities.
 -- Assumes nothing.
 use Rattle.std.specs.Prelude.{ℕ, List}
 use Rattle.text.specs.Ascii.{ascii}
@@ -6,6 +6,3 @@ use Rattle.text.specs.Lines.{fields_in}
 
 abbrev pub entity_names : List (List ℕ)
 entity_names = fields_in (ascii "slot kind sec int sa sd ia id data")
-
-abbrev pub group_names : List (List ℕ)
-group_names = fields_in (ascii "tags")

@@ -1,9 +1,9 @@
-// One line of the entities; the name of the groups.
+// One line of the entities.
 #![tactic(auto)]
 
 ghost use Rattle.std.specs.Prelude.{◌≡◌, option_map};
 ghost use Rattle.text.specs.Lines.{fields_in, names_once};
-ghost use Rattle.rows.specs.Names.{entity_names, group_names};
+ghost use Rattle.rows.specs.Names.{entity_names};
 ghost use Rattle.rows.specs.Entities.{entity_columns, kind_named, entity_formed, entity_of, as_entity_row};
 
 use entity::Entity;
@@ -34,20 +34,11 @@ pub struct EntityRow {
     pub block: [u8; 64],
 }
 
-// The headers of this crate and of callrows are each text::is_header of its names, which stand here beside the columns.
-
-// Whether a line is the names of the entities, each once.
+// Whether a line is the names of the entities, each once. Here, in grouprows and in callrows the names stand beside the columns.
 pub fn is_entity_header(line: &[u8]) -> bool
     ensures { result ≡ names_once entity_names (fields_in line.now) }
 {
     text::is_header(line, b"slot kind sec int sa sd ia id data")
-}
-
-// Whether a line is the name of the groups.
-pub fn is_group_header(line: &[u8]) -> bool
-    ensures { result ≡ names_once group_names (fields_in line.now) }
-{
-    text::is_header(line, b"tags")
 }
 
 // The columns of the entities in a line of names.

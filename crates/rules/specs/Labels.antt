@@ -21,8 +21,9 @@ pub record Labels : Type 1 where
   pub remove : Tag → Label → Label
   -- what is named is no tag of the hub's
   pub outside : Tag → Bool
-  -- whether who holds so much, all sets together, keeps to a group
+  -- whether who holds so much, all sets together, keeps to a group; and whether a group has the form, without which a table lacks it
   pub keeps : Group → Label → Bool
+  pub group_formed : Group → Bool
   -- of a record: byte 5 and the bytes from 8 on, by the tag given, if the call uses one, and the need; how many bytes these
   -- are; and of any bytes of a record's size whether a need can be read from them, and which
   pub byte5 : Option Tag → Label → ℕ

@@ -1,6 +1,7 @@
 -- Document 01, 'The table': slots, flow, conflict groups, and the form that refusal 99 asks for.
 -- Assumes nothing.
 use Rattle.std.specs.Prelude.{Bool, true, false, cond, not, ◌&&◌, ◌||◌, List, [], ◌∷◌, ℕ, ltb, leb, eqb, length}
+use Rattle.std.specs.List.{list_all}
 use Rattle.rules.specs.declared.Kind.{Kind}
 use Rattle.rules.specs.declared.Kind.TheVariants.{Free, Item, Program}
 use Rattle.rules.specs.Bounded.{all_below}
@@ -73,7 +74,7 @@ module _ {A : Labels} where
       A.join (A.join (A.join e.sec e.int) (A.join e.rights.sa e.rights.sd)) (A.join e.rights.ia e.rights.id)
 
   -- An entity keeps to every group: that union does. What keeps to one group is the labels' own to say; of sets of tags it
-  -- is what has at most one tag in common with it
+  -- is what has at most as many tags in common with it as the group's number says
   abbrev pub keeps_all : List A.Group → Slot A → Bool
   keeps_all gs e = keeps_each A gs (held e)
 
@@ -122,7 +123,7 @@ pub record Plain (A : Labels) : Type 0 where
 abbrev pub plain : (A : Labels) → Tables A
 plain A = record {
   Table = Plain A;
-  formed = λ t. all_below 32 (λ i. slot_formed (t.slots i)) && leb (length t.groups) 8;
+  formed = λ t. all_below 32 (λ i. slot_formed (t.slots i)) && (leb (length t.groups) 8 && list_all A.group_formed t.groups);
   slot = λ t i. t.slots i;
   groups = λ t. t.groups;
   store = λ t k e. record { slots = λ i. cond (eqb i k) e (t.slots i); groups = t.groups };

@@ -2,10 +2,11 @@
 -- Assumes nothing.
 use Rattle.std.specs.Prelude.{◌≡◌, ℕ, ◌+◌, ◌≤◌, ◌<◌, Bool, true, false, cond, not, ◌&&◌, Option, None, Some, MatchOption, is_some, List, [], ◌∷◌, length, drop, eqb, ltb}
 use Rattle.std.specs.Option.{option_or}
-use Rattle.values.specs.Values.{hex_set_of}
 use Rattle.text.specs.Lines.{Lines, done, cut, line, lines_of, line_end, line_at, next_line, fields_in, names_once}
-use Rattle.rows.specs.Names.{entity_names, group_names}
+use Rattle.rows.specs.Names.{entity_names}
 use Rattle.rows.specs.Entities.{entity_columns, entity_of}
+use Rattle.grouprows.specs.Groups.{is_named, group_columns, group_of}
+use Rattle.grouprows.specs.declared.GroupColumns.{GroupColumns}
 use Rattle.callrows.specs.Calls.{call_names, call_columns, call_of}
 use Rattle.textblocks.specs.declared.Block.{Block}
 use Rattle.textblocks.specs.declared.Place.{Place}
@@ -60,24 +61,28 @@ module _ (text : List ℕ) where
   abbrev pub rows_at : Place → Lines
   rows_at p = lines_at (next_line text p.at)
 
+  -- the columns of the groups
+  unfoldable pub group_columns_in : GroupColumns
+  group_columns_in = group_columns (names_at groups_at)
+
 -- ---- 15
 
--- a row of a block, where i rows stand before it: of the entities; of the groups, each one set and at most 8; of the calls
+-- a row of a block, where i rows stand before it: of the entities; of the groups, at most 8; of the calls
 abbrev pub row_good : Block → ℕ → List ℕ → Bool
 row_good (Block.Entities cs) i l = is_some (entity_of cs (fields_in l))
-row_good Block.Groups i l = is_some (hex_set_of l) && ltb i 8
+row_good (Block.Groups cs) i l = is_some (group_of cs (fields_in l)) && ltb i 8
 row_good (Block.Calls cs) i l = is_some (call_of cs (fields_in l))
 
 -- the names of a block, each once, in any order
 abbrev pub is_header : Block → List (List ℕ) → Bool
 is_header (Block.Entities cs) hs = names_once entity_names hs
-is_header Block.Groups hs = names_once group_names hs
+is_header (Block.Groups cs) hs = is_named hs
 is_header (Block.Calls cs) hs = names_once call_names hs
 
 -- the last block ends with the text, another with an empty line
 abbrev pub is_last : Block → Bool
 is_last (Block.Entities cs) = false
-is_last Block.Groups = false
+is_last (Block.Groups cs) = false
 is_last (Block.Calls cs) = true
 
 module _ (b : Block) where
@@ -95,14 +100,17 @@ module _ (b : Block) where
 
 -- each block, its columns being those of its own line of names
 module _ (text : List ℕ) where
+  abbrev pub first_bad : Block → Place → Option ℕ
+  first_bad b p = block_bad b (is_header b (names_at text p)) text p
+
   unfoldable pub entities_bad : Place → Option ℕ
-  entities_bad p = block_bad (Block.Entities (entity_columns (names_at text p))) (names_once entity_names (names_at text p)) text p
+  entities_bad p = first_bad (Block.Entities (entity_columns (names_at text p))) p
 
   unfoldable pub groups_bad : Place → Option ℕ
-  groups_bad p = block_bad Block.Groups (names_once group_names (names_at text p)) text p
+  groups_bad p = first_bad (Block.Groups (group_columns (names_at text p))) p
 
   unfoldable pub calls_bad : Place → Option ℕ
-  calls_bad p = block_bad (Block.Calls (call_columns (names_at text p))) (names_once call_names (names_at text p)) text p
+  calls_bad p = first_bad (Block.Calls (call_columns (names_at text p))) p
 
 -- the first bad line of a text
 unfoldable pub bad_line : List ℕ → Option ℕ

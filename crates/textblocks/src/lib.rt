@@ -5,10 +5,11 @@ ghost use Rattle.std.specs.Prelude.{◌≡◌, ◌-◌, length, drop};
 ghost use Rattle.std.specs.Iterator.{at_most};
 ghost use Rattle.std.specs.Option.{option_map, option_or};
 ghost use Rattle.text.specs.Lines.{lines_of, fields_in};
-ghost use Rattle.textblocks.specs.Blocks.{Inside, Steps, start, past_empty, groups_at, calls_at, names_at, row_good, is_header, is_last, rows_bad, block_bad, bad_line};
+ghost use Rattle.textblocks.specs.Blocks.{Inside, Steps, start, past_empty, groups_at, calls_at, names_at, group_columns_in, row_good, is_header, is_last, rows_bad, block_bad, bad_line};
 ghost use Rattle.textblocks.specs.CallsIn.{call_columns_in};
 
 use callrows::CallColumns;
+use grouprows::GroupColumns;
 use rows::EntityColumns;
 
 // A place in a text, and the number of the line there.
@@ -18,12 +19,12 @@ pub struct Place {
     pub line: usize,
 }
 
-// A block of a text: the columns that its rows have. Groups have one. A match on it picks the reader of a block's rows; a trait would
-// have three instances of three functions in place of three matches, which is no plainer.
+// A block of a text: the columns that its rows have. A match on it picks the reader of a block's rows; a trait would have three instances of
+// three functions in place of three matches, which is no plainer.
 #[derive(Clone, Copy)]
 pub enum Block {
     Entities(EntityColumns),
-    Groups,
+    Groups(GroupColumns),
     Calls(CallColumns),
 }
 
@@ -102,6 +103,13 @@ pub fn calls_at(text: &[u8]) -> usize
     calls(text).place.at
 }
 
+// The columns of the groups of a text.
+pub fn group_columns_in(text: &[u8]) -> GroupColumns
+    ensures { result ≡ group_columns_in text.now }
+{
+    grouprows::group_columns(text::line_at(text, groups(text).place.at))
+}
+
 // The columns of the calls of a text.
 pub fn call_columns_in(text: &[u8]) -> CallColumns
     ensures { result ≡ call_columns_in text.now }
@@ -115,18 +123,18 @@ fn row_good(block: Block, i: usize, row: &[u8]) -> bool
 {
     match block {
         Block::Entities(columns) => rows::entity_row(columns, row).is_some(),
-        Block::Groups => values::hex_set(row).is_some() && i < 8,
+        Block::Groups(columns) => grouprows::group_row(columns, row).is_some() && i < 8,
         Block::Calls(columns) => callrows::call_row(columns, row).is_some(),
     }
 }
 
-// Whether a line is the names of a block, each once: of the headers that stand beside the columns in rows and callrows.
+// Whether a line is the names of a block, each once: of the headers that stand beside the columns in rows, grouprows and callrows.
 fn is_header(block: Block, line: &[u8]) -> bool
     ensures { result ≡ is_header block (fields_in line.now) }
 {
     match block {
         Block::Entities(_) => rows::is_entity_header(line),
-        Block::Groups => rows::is_group_header(line),
+        Block::Groups(_) => grouprows::is_group_header(line),
         Block::Calls(_) => callrows::is_call_header(line),
     }
 }
@@ -177,7 +185,7 @@ pub fn bad_line(text: &[u8]) -> Option<usize>
 {
     let columns = rows::entity_columns(text::line_at(text, 0));
     let entities = block_bad(Rest::all(text), Block::Entities(columns));
-    let groups = block_bad(groups(text), Block::Groups);
+    let groups = block_bad(groups(text), Block::Groups(group_columns_in(text)));
     let calls = block_bad(calls(text), Block::Calls(call_columns_in(text)));
     entities.or(groups).or(calls)
 }

@@ -43,7 +43,11 @@ pub struct Slot {
 pub struct Table {
     pub slots: [Slot; SLOTS],
     pub content: [u8; SLOTS * CONTENT],
+    /// The tags of each conflict group.
     pub groups: [u64; GROUPS],
+    /// How many tags of each group may be combined, 1 to 64.
+    pub most: [u8; GROUPS],
+    /// How many of the groups count.
     pub count: usize,
 }
 
@@ -84,8 +88,8 @@ pub struct Loaded {
 }
 
 // The layout that the archive has.
-const _: () = assert!(size_of::<Slot>() == 64 && size_of::<Table>() == 4168 && size_of::<Reply>() == 4192);
-const _: () = assert!(size_of::<Audited>() == 16 && size_of::<Checked>() == 16 && size_of::<Loaded>() == 4184);
+const _: () = assert!(size_of::<Slot>() == 64 && size_of::<Table>() == 4176 && size_of::<Reply>() == 4200);
+const _: () = assert!(size_of::<Audited>() == 16 && size_of::<Checked>() == 16 && size_of::<Loaded>() == 4192);
 
 extern "C" {
     fn hub_empty() -> Table;

@@ -57,6 +57,10 @@ impl State {
                 self.table.groups = all_sets(sets)?;
                 self.table.count = number(count, 255)?;
             }
+            ["most", ref numbers @ ..] => {
+                let most: Option<Vec<u8>> = numbers.iter().map(|word| byte(word)).collect();
+                self.table.most = most?.try_into().ok()?;
+            }
             ["dump"] => {
                 let line = digits(&table_bytes(&self.table));
                 self.output += &line;
@@ -202,6 +206,7 @@ fn table_bytes(table: &Table) -> Vec<u8> {
     for group in table.groups {
         bytes.extend(group.to_le_bytes());
     }
+    bytes.extend(table.most);
     bytes
 }
 

@@ -47,6 +47,27 @@ fn only_calls_are_previewed() {
 }
 
 #[test]
+fn numbers_are_eight_bytes() {
+    for line in [
+        "most",
+        "most ",
+        "most 1",
+        "most 1 1 1 1 1 1 1",
+        "most 1 1 1 1 1 1 1 1 1",
+        "most 1 1 1 1 1 1 1 256",
+        "most -1 1 1 1 1 1 1 1",
+        "most +1 1 1 1 1 1 1 1",
+        "most 1 1 1 1 1 1 1 a",
+        "most  1 1 1 1 1 1 1",
+        "most 1 1 1 1 1 1 1 1 ",
+        "Most 1 1 1 1 1 1 1 1",
+        "preview most 1 1 1 1 1 1 1 1",
+    ] {
+        is_no_command(line);
+    }
+}
+
+#[test]
 fn a_check_is_of_one_set() {
     for line in [
         "check",

@@ -1,7 +1,8 @@
-//! Structs that no script gives: kinds other than 0, 1 and 2, and lengths and counts of any size. Every call and audit on
-//! one is refused by 99, and hands back the very struct and buffer; and a check counts no group.
+//! Structs that no script gives: kinds other than 0, 1 and 2, and lengths and counts of any size; and groups with every
+//! number that a byte may be. Every call and audit on one that lacks the form is refused by 99, and hands back the very
+//! struct and buffer; and a check counts no group.
 
-use hub::{load, Checked, Reply, Table, ITEM, PROGRAM, SLOTS};
+use hub::{load, Checked, Reply, Table, GROUPS, ITEM, PROGRAM, SLOTS};
 
 const TEXT: &[u8] = b"slot kind sec int sa sd ia id data
 0 prog 1 0 3 3 0 0 a1b2
@@ -102,6 +103,49 @@ fn counts_of_any_size() {
     }
 }
 
+/// 99 refuses nothing here, and the groups and their numbers come back as they are.
+fn has_the_form(table: Table) {
+    let mut buffer = [0xee; 64];
+    for reply in calls(table, &mut buffer) {
+        assert!(reply.number != 99);
+        let Table { groups, most, count, .. } = reply.table;
+        assert_eq!((groups, most, count), (table.groups, table.most, table.count));
+    }
+    let audited = table.audit(0, &[0; 32], &mut buffer);
+    assert_eq!((audited.number, audited.len), (0, 32));
+    assert_eq!(table.check(0).number, 0);
+}
+
+#[test]
+fn every_number_at_every_place() {
+    for count in 0..=GROUPS {
+        for place in 0..GROUPS {
+            for number in 0..=255 {
+                let mut table = start();
+                table.count = count;
+                table.most[place] = number;
+                if place < count && !(1..=64).contains(&number) {
+                    lacks_the_form(table);
+                } else {
+                    has_the_form(table);
+                }
+            }
+        }
+    }
+}
+
+#[test]
+fn numbers_of_a_text() {
+    let text = |groups: &str| String::from_utf8_lossy(TEXT).replace("tags\nc\n", groups);
+    assert_eq!(load(text("tags\nc\n3\n").as_bytes()).number, 17);
+    for groups in ["tags most\nc 1\n3 64\n", "most tags\n1 c\n64 3\n"] {
+        let loaded = load(text(groups).as_bytes());
+        assert_eq!((loaded.number, loaded.line), (0, 0));
+        assert_eq!(loaded.table.groups, [0xc, 3, 0, 0, 0, 0, 0, 0]);
+        assert_eq!(loaded.table.most, [1, 64, 1, 1, 1, 1, 1, 1]);
+    }
+}
+
 #[test]
 fn another_kind_with_another_length_comes_back() {
     let mut table = start();
@@ -119,5 +163,5 @@ fn the_empty_table() {
     assert!(table == load(b"").table);
     assert_eq!(table.slots, [hub::Slot::default(); SLOTS]);
     assert!(table.content.iter().all(|byte| *byte == 0));
-    assert_eq!((table.groups, table.count), ([0; 8], 0));
+    assert_eq!((table.groups, table.most, table.count), ([0; 8], [1; 8], 0));
 }

@@ -1,5 +1,7 @@
 //! The table: slots, entities, conflict groups.
 
+use std::ops::RangeInclusive;
+
 use crate::tags::{union, Tags};
 
 /// Slots are 0 to 31.
@@ -8,6 +10,8 @@ pub const SLOTS: usize = 32;
 pub const MOST_CONTENT: usize = 64;
 /// There are 0 to 8 conflict groups.
 pub const MOST_GROUPS: usize = 8;
+/// A group's number is 1 to 64.
+pub const NUMBERS: RangeInclusive<u8> = 1..=64;
 
 /// The four rights in hand's order, as indexes into `Entity::rights`.
 pub const ADD_S: usize = 0;
@@ -42,9 +46,17 @@ impl Entity {
     }
 
     /// The entity keeps to every one of the groups.
-    pub fn keeps_to(&self, groups: &[Tags]) -> bool {
+    pub fn keeps_to(&self, groups: &[Group]) -> bool {
         check(groups, &self.tags()).keeps
     }
+}
+
+/// A conflict group.
+#[derive(Clone, PartialEq, Eq, Debug)]
+pub struct Group {
+    pub tags: Tags,
+    /// The group's number: the most of its tags that an entity may have.
+    pub most: u8,
 }
 
 /// What a check of the groups tells.
@@ -57,14 +69,14 @@ pub struct Checked {
 }
 
 /// Checks the groups for the union of all that somebody holds.
-pub fn check(groups: &[Tags], held: &Tags) -> Checked {
+pub fn check(groups: &[Group], held: &Tags) -> Checked {
     let broken = groups.iter().position(|group| breaks(held, group));
     Checked { keeps: broken.is_none(), counted: broken.map_or(groups.len(), |at| at + 1) }
 }
 
-/// A group is broken when more than one of its tags is held.
-fn breaks(held: &Tags, group: &Tags) -> bool {
-    held.intersection(group).count() > 1
+/// A group is broken when more of its tags are held than its number.
+fn breaks(held: &Tags, group: &Group) -> bool {
+    held.intersection(&group.tags).count() > group.most as usize
 }
 
 /// Flow from A to B is allowed when S(A) is a subset of S(B) and I(B) is a
@@ -76,7 +88,7 @@ pub fn flow(a: &Entity, b: &Entity) -> bool {
 #[derive(Clone, PartialEq, Eq, Debug)]
 pub struct Hub {
     pub slots: Vec<Option<Entity>>,
-    pub groups: Vec<Tags>,
+    pub groups: Vec<Group>,
 }
 
 impl Hub {

@@ -3,7 +3,7 @@
 use crate::audit::Audit;
 use crate::call::Call;
 use crate::effect::Answer;
-use crate::hub::{check, Checked, Entity, Hub, Kind, MOST_CONTENT, MOST_GROUPS, SLOTS};
+use crate::hub::{check, Checked, Entity, Group, Hub, Kind, MOST_CONTENT, MOST_GROUPS, NUMBERS, SLOTS};
 use crate::record::record;
 use crate::tags::{from_word, to_word, Tags};
 
@@ -33,6 +33,8 @@ pub struct Table {
     pub content: [u8; CONTENT_AREA],
     pub group_count: u8,
     pub groups: [u64; MOST_GROUPS],
+    /// The groups' numbers.
+    pub most: [u8; MOST_GROUPS],
 }
 
 impl Table {
@@ -43,6 +45,7 @@ impl Table {
             content: [0; CONTENT_AREA],
             group_count: 0,
             groups: [0; MOST_GROUPS],
+            most: [1; MOST_GROUPS],
         }
     }
 
@@ -54,7 +57,8 @@ impl Table {
     /// Refusal 99: the table lacks the form. Groups beyond the count do not matter.
     pub fn lacks_form(&self) -> bool {
         let too_many_groups = self.group_count as usize > MOST_GROUPS;
-        too_many_groups || (0..SLOTS).any(|slot| self.slot_lacks_form(slot))
+        let bad_number = self.most.iter().take(self.group_count as usize).any(|most| !NUMBERS.contains(most));
+        too_many_groups || bad_number || (0..SLOTS).any(|slot| self.slot_lacks_form(slot))
     }
 
     fn slot_lacks_form(&self, slot: usize) -> bool {
@@ -76,8 +80,8 @@ impl Table {
     /// The hub that a table of the right form stands for.
     pub fn to_hub(&self) -> Hub {
         let slots = (0..SLOTS).map(|slot| self.entity(slot)).collect();
-        let groups = self.groups.iter().take(self.group_count as usize);
-        Hub { slots, groups: groups.map(|word| from_word(*word)).collect() }
+        let groups = self.groups.iter().zip(self.most).take(self.group_count as usize);
+        Hub { slots, groups: groups.map(|(word, most)| Group { tags: from_word(*word), most }).collect() }
     }
 
     fn entity(&self, slot: usize) -> Option<Entity> {
@@ -96,13 +100,14 @@ impl Table {
         })
     }
 
-    /// The table that stands for a hub; group words beyond the count are zero.
+    /// The table that stands for a hub; beyond the count group words are zero and numbers 1.
     pub fn of_hub(hub: &Hub) -> Table {
         let mut table = Table::empty();
         table.take_slots(hub);
         table.group_count = hub.groups.len() as u8;
-        for (word, group) in table.groups.iter_mut().zip(&hub.groups) {
-            *word = to_word(group);
+        for (place, group) in hub.groups.iter().enumerate() {
+            table.groups[place] = to_word(&group.tags);
+            table.most[place] = group.most;
         }
         table
     }
@@ -172,6 +177,7 @@ impl Table {
         bytes.extend(self.content);
         bytes.extend(u64::from(self.group_count).to_le_bytes());
         bytes.extend(self.groups.iter().flat_map(|group| group.to_le_bytes()));
+        bytes.extend(self.most);
         bytes
     }
 

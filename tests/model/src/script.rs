@@ -114,6 +114,11 @@ fn set_up(table: &mut Table, words: &[&str]) -> Option<String> {
                 *group = word(text)?;
             }
         }
+        ["most", numbers @ ..] if numbers.len() == table.most.len() => {
+            for (most, text) in table.most.iter_mut().zip(numbers) {
+                *most = byte(text)?;
+            }
+        }
         _ => return None,
     }
     Some(String::new())

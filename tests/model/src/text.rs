@@ -4,7 +4,7 @@ use std::collections::BTreeMap;
 
 use crate::call::{Call, Name};
 use crate::hex;
-use crate::hub::{Entity, Hub, Kind, MOST_CONTENT, MOST_GROUPS, SLOTS};
+use crate::hub::{Entity, Group, Hub, Kind, MOST_CONTENT, MOST_GROUPS, NUMBERS, SLOTS};
 use crate::tags::{from_word, Tags};
 
 /// The most bytes a text may have.
@@ -76,7 +76,7 @@ struct EntityRow {
 #[derive(Default)]
 struct Form {
     entities: Vec<EntityRow>,
-    groups: Vec<Tags>,
+    groups: Vec<Group>,
     calls: Vec<Call>,
 }
 
@@ -88,12 +88,12 @@ enum Block {
 }
 
 impl Block {
-    /// The block's column names.
-    fn names(self) -> &'static [&'static str] {
+    /// The block's column names. The groups may have a second one.
+    fn names(self) -> &'static [&'static [&'static str]] {
         match self {
-            Block::Entities => &["slot", "kind", "sec", "int", "sa", "sd", "ia", "id", "data"],
-            Block::Groups => &["tags"],
-            Block::Calls => &["call", "caller", "other", "set", "tag", "data"],
+            Block::Entities => &[&["slot", "kind", "sec", "int", "sa", "sd", "ia", "id", "data"]],
+            Block::Groups => &[&["tags"], &["tags", "most"]],
+            Block::Calls => &[&["call", "caller", "other", "set", "tag", "data"]],
         }
     }
 
@@ -118,7 +118,7 @@ fn read_form(text: &[u8], form: &mut Form) -> Result<(), BadLine> {
     for content in lines {
         line += 1;
         match &columns {
-            None => columns = Some(read_names(content, block.names()).ok_or(line)?),
+            None => columns = Some(read_any_names(content, block.names()).ok_or(line)?),
             Some(_) if content.is_empty() => {
                 block = block.next().ok_or(line)?;
                 columns = None;
@@ -128,7 +128,7 @@ fn read_form(text: &[u8], form: &mut Form) -> Result<(), BadLine> {
                 match block {
                     Block::Entities => form.entities.push(entity_row(&row, line).ok_or(line)?),
                     Block::Groups if form.groups.len() == MOST_GROUPS => return Err(line),
-                    Block::Groups => form.groups.push(set(row["tags"]).ok_or(line)?),
+                    Block::Groups => form.groups.push(group_row(&row).ok_or(line)?),
                     Block::Calls => form.calls.push(call_row(&row).ok_or(line)?),
                 }
             }
@@ -144,6 +144,11 @@ fn read_form(text: &[u8], form: &mut Form) -> Result<(), BadLine> {
 
 fn fields(line: &[u8]) -> Vec<&[u8]> {
     line.split(|byte| *byte == SPACE).collect()
+}
+
+/// The columns in the order of a line of names, by the names that it has.
+fn read_any_names(line: &[u8], choices: &[&[&'static str]]) -> Option<Vec<&'static str>> {
+    choices.iter().find_map(|names| read_names(line, names))
 }
 
 /// The columns in the order of a line of names: any order, each name once.
@@ -187,6 +192,16 @@ fn entity_row(row: &Row, line: usize) -> Option<EntityRow> {
     }
     let entity = Entity { kind, secrecy, integrity, rights, content };
     Some(EntityRow { line, slot, entity })
+}
+
+/// A group, whose number is 1 where the block has no column for it.
+fn group_row(row: &Row) -> Option<Group> {
+    let tags = set(row["tags"])?;
+    let most = match row.get("most") {
+        Some(field) => decimal(field, 255)?,
+        None => 1,
+    };
+    NUMBERS.contains(&most).then_some(Group { tags, most })
 }
 
 fn call_row(row: &Row) -> Option<Call> {

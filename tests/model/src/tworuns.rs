@@ -4,7 +4,7 @@ use crate::call::{Call, Name};
 use crate::effect::Answer;
 use crate::generate::rng::Rng;
 use crate::generate::scenes::{call_line, preview_line, table_lines};
-use crate::generate::world::{call, call_of, failing_caller, world};
+use crate::generate::world::{call, call_of, failing_caller, world, Numbers};
 use crate::hub::{Hub, DROP_S, SLOTS};
 use crate::raw::Table;
 
@@ -210,7 +210,7 @@ fn event_line(event: &Event) -> String {
 /// A random pair of runs that the claim speaks of.
 pub fn random_pair(rng: &mut Rng) -> Pair {
     let entities = rng.between(3, 12);
-    let mut world = world(rng, entities);
+    let mut world = world(rng, entities, Numbers::Near);
     let tag = rng.pick(&world.pool);
     hide_under(rng, &mut world.hub, tag);
     let mut other = world.hub.clone();

@@ -14,6 +14,7 @@ import sys
 
 HERE = os.path.dirname(os.path.abspath(__file__))
 sys.path.insert(0, os.path.dirname(os.path.dirname(HERE)))
+import allowances
 import checks
 import items
 import previews
@@ -25,6 +26,7 @@ PROGRAMS = sys.argv[1] if len(sys.argv) > 1 else BUILT
 TEXTS = [("rounds", 20, 120), ("damaged", 21, 401), ("mixed", 22, 19)]
 SCRIPTS = range(1, 49)
 SCENES = 4
+NUMBERS_SEED, NUMBERS_TEXTS, NUMBERS_SCRIPTS = 24, 60, range(1, 17)
 LISTS_SEED = 23
 # Lengths of lists of records, about those of a record and of hubtally's buffer
 LENGTHS = [0, 1, 8, 15, 16, 17, 31, 32, 33, 4095, 4096, 4097, 65535, 65536, 65537, 65551, 65552, 131072, 131088, 200000]
@@ -88,6 +90,11 @@ def write_scripts(folder, scripts):
         write(folder, name + ".script", "".join(line + "\n" for line in lines).encode())
 
 
+def write_random_scripts(folder, kind, seeds):
+    for seed in seeds:
+        write(folder, f"script-{seed:02}.script", run("generate_script", seed, SCENES, kind))
+
+
 def read(folder, name):
     with open(os.path.join(folder, name), "rb") as file:
         return file.read()
@@ -115,6 +122,14 @@ def answer(folder, auditors=()):
             write(folder, stem + ".page", run("tally", given=read(folder, name)))
 
 
+def must_answer(folder, name, wanted):
+    """That the answers to a script start and end as is wanted."""
+    lines = read(folder, name + ".sout").decode().splitlines()
+    wrong = [three for three in zip(*zip(*wanted), lines, strict=True)
+             if not (three[2].startswith(three[0]) and three[2].endswith(three[1]))]
+    assert not wrong, f"{name} is answered otherwise: {wrong}"
+
+
 def main():
     for kind, seed, count in TEXTS:
         folder = fresh(kind)
@@ -125,8 +140,11 @@ def main():
         write(folder, name + ".txt", most_calls(entities))
     answer(folder)
     folder = fresh("scripts")
-    for seed in SCRIPTS:
-        write(folder, f"script-{seed:02}.script", run("generate_script", seed, SCENES))
+    write_random_scripts(folder, "plain", SCRIPTS)
+    answer(folder)
+    folder = fresh("numbers")
+    run("generate", NUMBERS_SEED, NUMBERS_TEXTS, "numbers", folder)
+    write_random_scripts(folder, "numbers", NUMBERS_SCRIPTS)
     answer(folder)
     folder = fresh("items")
     for name, text in items.texts():
@@ -143,9 +161,18 @@ def main():
     write_scripts(folder, checks.scripts())
     answer(folder)
     for name, starts in checks.starts().items():
-        lines = read(folder, name + ".sout").decode().splitlines()
-        wrong = [both for both in zip(starts, lines, strict=True) if not both[1].startswith(both[0])]
-        assert not wrong, f"checks in {name} answer otherwise: {wrong}"
+        must_answer(folder, name, [(start, "") for start in starts])
+    folder = fresh("allowances")
+    for name, text in allowances.texts():
+        write(folder, name + ".txt", text.encode())
+    write_scripts(folder, allowances.scripts())
+    answer(folder)
+    for name, first in allowances.printed().items():
+        line, *rest = read(folder, name + ".out").decode().splitlines()
+        numbers = [int(record[6:8], 16) for record in rest]
+        assert (line, numbers) == (first, allowances.recorded().get(name, [])), f"{name} prints {line} and {numbers}"
+    for name, wanted in allowances.answers().items():
+        must_answer(folder, name, wanted)
     folder = fresh("tally")
     for name, content in lists():
         write(folder, name + ".records", content)

@@ -5,7 +5,7 @@ use std::collections::BTreeMap;
 use hub::call::Call;
 use hub::generate::rng::Rng;
 use hub::generate::scenes::script;
-use hub::generate::world::world;
+use hub::generate::world::{world, Numbers};
 use hub::hub::check;
 use hub::script::{run, State};
 
@@ -78,7 +78,7 @@ fn on_a_table_that_lacks_the_form_none_is_counted_and_nothing_is_kept() {
 fn a_hand_is_refused_by_11_where_the_check_of_the_union_breaks() {
     let mut counts: BTreeMap<(u8, usize), usize> = BTreeMap::new();
     for seed in 0..400 {
-        let hub = world(&mut Rng::new(seed), 10).hub;
+        let hub = world(&mut Rng::new(seed), 10, Numbers::Ones).hub;
         let programs: Vec<u8> = (0..32).filter(|slot| hub.program(*slot).is_some()).collect();
         let hands = programs.iter().flat_map(|caller| programs.iter().map(move |other| (*caller, *other)));
         for (caller, other) in hands {
@@ -105,7 +105,7 @@ fn generated_scripts_reach_checks_of_each_kind() {
     let mut counts: BTreeMap<String, usize> = BTreeMap::new();
     for seed in 0..120 {
         let mut state = State::start();
-        for line in script(seed, 4).lines() {
+        for line in script(seed, 4, Numbers::Ones).lines() {
             match line.strip_prefix("check ") {
                 Some(held) => *counts.entry(told(&mut state, held)).or_default() += 1,
                 None => drop(state.line(line).expect("a command")),

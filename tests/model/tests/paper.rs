@@ -1,7 +1,7 @@
 //! The paper's own examples.
 
 use hub::call::Call;
-use hub::hub::{Entity, Hub, Kind, DROP_S};
+use hub::hub::{Entity, Group, Hub, Kind, DROP_S};
 use hub::record::Record;
 use hub::tags::Tags;
 
@@ -101,10 +101,15 @@ fn p11_and_p12_hand() {
     let mut caller = program(&[], &[]);
     caller.rights[DROP_S] = tags(&[1]);
     let mut hub = hub_of(&[caller, program(&[0], &[])]);
-    hub.groups = vec![tags(&[0, 1])];
+    hub.groups = vec![Group { tags: tags(&[0, 1]), most: 1 }];
     assert_eq!(number(&hub, Call::hand(0, 1, 1, 1)), 11, "P11");
+    hub.groups[0].most = 2;
+    assert_eq!(number(&hub, Call::hand(0, 1, 1, 1)), 0, "P11 with an allowance of 2");
     hub.slots[0].as_mut().unwrap().rights[DROP_S] = tags(&[0]);
-    assert_eq!(number(&hub, Call::hand(0, 1, 1, 0)), 0, "P12");
+    for most in [1, 2] {
+        hub.groups[0].most = most;
+        assert_eq!(number(&hub, Call::hand(0, 1, 1, 0)), 0, "P12");
+    }
 }
 
 #[test]

@@ -4,6 +4,7 @@ use std::collections::BTreeMap;
 
 use hub::call::Name;
 use hub::generate::scenes::script;
+use hub::generate::world::Numbers;
 use hub::hex::digits;
 use hub::script::{run, State};
 
@@ -161,7 +162,7 @@ fn generated_scripts_preview_every_kind_of_call() {
     let mut counts: BTreeMap<(String, &str), usize> = BTreeMap::new();
     let mut followed = 0;
     for seed in 0..60 {
-        let script = script(seed, 4);
+        let script = script(seed, 4, Numbers::Ones);
         let mut state = State::start();
         let mut previewed = "";
         for line in script.lines() {

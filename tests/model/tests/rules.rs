@@ -3,11 +3,12 @@
 use std::collections::BTreeMap;
 
 use hub::call::{Call, Name};
-use hub::generate::damage::{catalogue, Class};
+use hub::generate::damage::{self, Class};
 use hub::generate::draft::round;
+use hub::generate::numbers;
 use hub::generate::rng::Rng;
 use hub::generate::scenes::script;
-use hub::generate::world::{call, world};
+use hub::generate::world::{call, world, Numbers};
 use hub::hub::{Entity, Hub, Kind, ADD_S, SLOTS};
 use hub::hubcalls::output;
 use hub::raw::{RawKind, Table};
@@ -135,7 +136,7 @@ fn one_number_over_the_whole_text_before_the_next() {
 
 #[test]
 fn lengths_of_a_text() {
-    let cases = catalogue();
+    let cases = damage::catalogue();
     for (name, length) in [("length-65535", 65_535), ("length-65536", 65_536)] {
         let case = cases.iter().find(|case| case.name == name).unwrap();
         let text = (case.make)(&mut Rng::new(5));
@@ -322,19 +323,21 @@ fn under_99_the_need_is_empty_for_an_item_too() {
 fn raw_tables_and_hubs_agree() {
     for seed in 0..200 {
         let mut rng = Rng::new(seed);
-        let hub = world(&mut rng, 12).hub;
+        let hub = world(&mut rng, 12, Numbers::Near).hub;
         assert_eq!(Table::of_hub(&hub).to_hub(), hub);
     }
-    assert_eq!(Table::empty().bytes().len(), 32 * 57 + 2048 + 72);
+    assert_eq!(Table::empty().bytes().len(), 32 * 57 + 2048 + 80);
     assert_eq!(Table::of_hub(&Hub::empty()), Table::empty());
 }
 
 #[test]
 fn accepted_tables_stay_accepted_and_refused_calls_change_nothing() {
-    for seed in 0..300 {
+    for seed in 0..600 {
         let mut rng = Rng::new(seed);
-        let world = world(&mut rng, 10);
+        let numbers = if seed < 300 { Numbers::Ones } else { Numbers::Near };
+        let world = world(&mut rng, 10, numbers);
         let mut hub = world.hub;
+        assert!(hub.accepted());
         for _ in 0..60 {
             let call = call(&mut rng, &hub, &world.pool, 64);
             let (next, answer) = hub.call(&call);
@@ -352,7 +355,7 @@ fn accepted_tables_stay_accepted_and_refused_calls_change_nothing() {
 #[test]
 fn cases_meet_what_they_are_meant_for() {
     for seed in 0..3 {
-        for case in catalogue() {
+        for case in damage::catalogue().into_iter().chain(numbers::catalogue()) {
             let loaded = load(&(case.make)(&mut Rng::new(seed)));
             let number = loaded.err().map_or(0, |refused| refused.number);
             let meant: &[u8] = match case.class {
@@ -365,20 +368,24 @@ fn cases_meet_what_they_are_meant_for() {
             };
             assert!(meant.contains(&number), "{} gave {number}", case.name);
         }
-        assert!(load(&round(&mut Rng::new(seed))).is_ok());
+        assert!(load(&round(&mut Rng::new(seed), Numbers::Ones)).is_ok());
+        assert!(load(&round(&mut Rng::new(seed), Numbers::Near)).is_ok());
     }
 }
 
 #[test]
 fn input_is_fixed_by_the_seed() {
-    assert_eq!(round(&mut Rng::new(7)), round(&mut Rng::new(7)));
-    assert_eq!(script(7, 3), script(7, 3));
+    for numbers in [Numbers::Ones, Numbers::Near] {
+        assert_eq!(round(&mut Rng::new(7), numbers), round(&mut Rng::new(7), numbers));
+        assert_eq!(script(7, 3, numbers), script(7, 3, numbers));
+    }
 }
 
 #[test]
 fn scripts_run_and_stay_short() {
-    for seed in 0..100 {
-        let script = script(seed, 4);
+    for seed in 0..200 {
+        let numbers = if seed < 100 { Numbers::Ones } else { Numbers::Near };
+        let script = script(seed, 4, numbers);
         assert!(hub::script::run(&script).is_ok());
         assert!(script.len() < 60_000);
         assert!(script.ends_with("dump\n"));
@@ -409,7 +416,7 @@ fn run_is_the_records_since_the_last_table() {
 fn a_dump_is_the_table() {
     let dump = hub::script::run(&format!("{PROGRAM}put 3 0a0b\ndump\n")).expect("commands");
     let dump = hub::hex::bytes(dump.lines().last().expect("a line").as_bytes()).expect("digits");
-    assert_eq!(dump.len(), 3_944);
+    assert_eq!(dump.len(), 3_952);
     assert_eq!(dump[3 * 57], 2);
     assert_eq!(dump[3 * 57 + 49..4 * 57], 2u64.to_le_bytes());
     assert_eq!(dump[32 * 57 + 3 * 64..][..3], [10, 11, 0]);

@@ -1,54 +1,63 @@
-use Rattle.std.proofs.Common.{◌≡◌, refl, sym, ap, ◌∙◌, ◌+◌, ◌<◌, ℕ, List, ◌∷◌, true, false, arith, length, slice_index_or, take, drop}
-use Rattle.std.proofs.lemmas.List.{at_drop_more, at_drop_all}
+use Rattle.std.proofs.Common.{◌≡◌, refl, sym, ap₂, ◌∙◌, ◌∷◌, false, true, arith, take, List}
+use mathlib.Core.Logic.{inl, inr, ⊎_elim}
 use lib.ListN.{length-take}
-use Rattle.label.specs.declared.Label.{Label}
-use Rattle.label.specs.Tags.{empty}
+use Rattle.label.specs.declared.Group.{Group}
 use Rattle.label.specs.Words.{words}
-use Rattle.rules.specs.Table.{keeps_each}
 use Rattle.groups.specs.Check.{counted}
+use Rattle.groups.specs.Groups.{with_numbers}
+use Rattle.groups.proofs.Numbers.{with_take, with_none}
 use Rattle.groups.proofs.check.Goals as goal
+use Rattle.groups.proofs.check.Goals.{In-Some}
 
-pub loop-group-init : goal.loop-group-init
-loop-group-init c = record { passed = refl; kept = refl; count = omega arith }
+pub loop-tags-init : goal.loop-tags-init
+loop-tags-init c =
+    let z = c.into_iter-tags-iterator.ensures.into_iter_gives in
+    let e : with_numbers c.into_iter-tags-iterator.result.a.rest.now c.into_iter-tags-iterator.result.b.rest.now ≡ take c.args.count (with_numbers c.args.groups.now c.args.most.now) =
+    rw (z, c.zip-tags-items.ensures.first, c.zip-tags-items.ensures.second.0, c.iter.ensures.rest, c.front.ensures.0) (sym (with_take c.args.count c.args.groups.now c.args.most.now)) in
+    rw e (record { passed = omega arith; kept = refl; count = omega arith })
+
+-- a group that was taken, and those behind it
+module _ (c : In-Some) where
+  abbrev group : Group
+  group = record { tags = c.in-Some.tags.now; most = c.in-Some.number.now }
+
+  abbrev behind : List Group
+  behind = with_numbers c.next.new.self.a.rest.now c.next.new.self.b.rest.now
+
+  taken : with_numbers c.loop-tags.tags-iterator.a.rest.now c.loop-tags.tags-iterator.b.rest.now ≡ group ∷ behind
+  taken = let s = c.in-Some.ensures.steps in ap₂ with_numbers s.0 s.1
 
 -- the groups passed are fewer than `count`
 pub overflow_add-counted : goal.overflow_add-counted
 overflow_add-counted c =
-    let n = length-take c.args.count c.args.groups.now in
-    grind (arith, c.ranges.count.fits, c.loop-group.invariant.passed, c.loop-group-test.true, c.front-group-items.ensures.0)
-
--- the verdict and the count of what is left, one group further
-module _ (held : Label) (gs : List Label) (i : ℕ) (h : i < length gs) where
-  kept_from : keeps_each words (drop i gs) held ≡ keeps_each words (slice_index_or gs i empty ∷ drop (i + 1) gs) held
-  kept_from = at_drop_more (λ x. keeps_each words x held) gs i empty h
-
-  counted_from : counted words (drop i gs) held ≡ counted words (slice_index_or gs i empty ∷ drop (i + 1) gs) held
-  counted_from = at_drop_more (λ x. counted words x held) gs i empty h
+    let n = length-take c.args.count (with_numbers c.args.groups.now c.args.most.now) in
+    let p = rw (taken c) at c.loop-tags.invariant.passed in
+    grind (arith, c.ranges.count.fits, p, n)
 
 pub returns-then-not-keeps : goal.returns-then-not-keeps
-unfolding empty
 returns-then-not-keeps c =
-    let gs = c.front-group-items.result.now in let l = c.loop-group in
-    let e : gs ≡ take c.args.count c.args.groups.now = c.front-group-items.ensures.0 in
-    let b : words.keeps (slice_index_or gs l.group-index empty) c.args.held ≡ false = sym c.keeps.ensures ∙ c.if-not-keeps.true in
-    let k = rw b at (kept_from c.args.held gs l.group-index c.loop-group-test.true) in
-    let n = rw b at (counted_from c.args.held gs l.group-index c.loop-group-test.true) in
-    rw (← e) (λ i. record { keeps = (sym k ∙ l.invariant.kept) i; counted = (ap (λ m. l.counted + m) (sym n) ∙ l.invariant.count) i })
+    let k = (goal.at.returns-then-not-keeps c).In-Some in
+    let l = c.loop-tags in
+    let b : words.keeps (group k) c.args.held ≡ false = sym c.keeps.ensures ∙ c.if-not-keeps.true in
+    let v = rw (taken k, b) at l.invariant.kept in
+    let n = rw (taken k, b) at l.invariant.count in
+    λ i. record { keeps = v i; counted = n i }
 
-pub loop-group-preserved : goal.loop-group-preserved
-unfolding empty
-loop-group-preserved c =
-    let gs = c.front-group-items.result.now in let l = c.loop-group in
-    let b : words.keeps (slice_index_or gs l.group-index empty) c.args.held ≡ true = sym c.keeps.ensures ∙ c.if-not-keeps.false in
-    let k = rw b at (kept_from c.args.held gs l.group-index c.loop-group-test.true) in
-    let n = rw b at (counted_from c.args.held gs l.group-index c.loop-group-test.true) in
-    record { passed = omega (arith, l.invariant.passed); kept = sym k ∙ l.invariant.kept; count = omega (arith, n, l.invariant.count) }
+pub loop-tags-preserved : goal.loop-tags-preserved
+loop-tags-preserved c =
+    let k = (goal.at.loop-tags-preserved c).In-Some in
+    let l = c.loop-tags in
+    let b : words.keeps (group k) c.args.held ≡ true = sym c.keeps.ensures ∙ c.if-not-keeps.false in
+    let p = rw (taken k) at l.invariant.passed in
+    let v = rw (taken k, b) at l.invariant.kept in
+    let n = rw (taken k, b) at l.invariant.count in
+    record { passed = omega (arith, p); kept = v; count = omega (arith, n) }
 
 pub returns : goal.returns
 returns c =
-    let gs = c.front-group-items.result.now in let l = c.loop-group in
-    let e : gs ≡ take c.args.count c.args.groups.now = c.front-group-items.ensures.0 in
-    let k = at_drop_all (λ x. keeps_each words x c.args.held) gs l.group-index c.loop-group-test.false in
-    let n = at_drop_all (λ x. counted words x c.args.held) gs l.group-index c.loop-group-test.false in
-    let m : l.counted ≡ counted words gs c.args.held = omega (arith, n, l.invariant.count) in
-    rw (← e) (λ i. record { keeps = (sym k ∙ l.invariant.kept) i; counted = m i })
+    let l = c.loop-tags in
+    let z = with_none l.tags-iterator.a.rest.now l.tags-iterator.b.rest.now (⊎_elim (λ a. inl a.1.0) (λ b. inr b.1.0) c.in-None.ensures.steps) in
+    let v = rw z at l.invariant.kept in
+    let n = rw z at l.invariant.count in
+    let m : l.counted ≡ counted words (take c.args.count (with_numbers c.args.groups.now c.args.most.now)) c.args.held = omega (arith, n) in
+    λ i. record { keeps = v i; counted = m i }

@@ -7,4 +7,4 @@ use Rattle.label.proofs.common.Goals as goal
 
 pub returns : goal.returns
 unfolding common_of
-returns c = let a = c.args in common_is 64 a.l.bits a.group.bits (search rules) (search rules)
+returns c = let a = c.args in common_is 64 a.a.bits a.b.bits (search rules) (search rules)

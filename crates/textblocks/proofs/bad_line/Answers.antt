@@ -4,7 +4,7 @@ use Rattle.text.specs.Lines.{fields_in}
 use Rattle.rows.specs.Entities.{entity_columns}
 use Rattle.textblocks.specs.declared.Place.{Place}
 use Rattle.textblocks.specs.declared.Block.{Block}
-use Rattle.textblocks.specs.Blocks.{start, names_at, is_header, block_bad, entities_bad, groups_bad, calls_bad, bad_line}
+use Rattle.textblocks.specs.Blocks.{start, names_at, group_columns_in, is_header, block_bad, entities_bad, groups_bad, calls_bad, bad_line}
 use Rattle.textblocks.specs.CallsIn.{call_columns_in}
 use Rattle.textblocks.proofs.bad_line.Goals as goal
 
@@ -14,7 +14,7 @@ abbrev bad : Block → List ℕ → Place → Option ℕ
 bad b text p = block_bad b (is_header b (names_at text p)) text p
 
 pub returns : goal.returns
-unfolding bad_line entities_bad groups_bad calls_bad call_columns_in start
+unfolding bad_line entities_bad groups_bad calls_bad group_columns_in call_columns_in start
 returns c =
     let all = c.all.ensures in
     let groups = c.groups.ensures in
@@ -23,5 +23,5 @@ returns c =
     c.or-2.ensures ∙ ap₂ option_or
     (c.or.ensures ∙ ap₂ option_or
     (c.block_bad-entities.ensures ∙ (λ i. bad (Block.Entities (columns i)) (all.0 i) (all.1 i)))
-    (c.block_bad-groups.ensures ∙ (λ i. bad Block.Groups (groups.0 i) (groups.1 i))))
+    (c.block_bad-groups.ensures ∙ (λ i. bad (Block.Groups (c.group_columns_in.ensures i)) (groups.0 i) (groups.1 i))))
     (c.block_bad-calls.ensures ∙ (λ i. bad (Block.Calls (c.call_columns_in.ensures i)) (calls.0 i) (calls.1 i)))

@@ -37,6 +37,7 @@ fn start() -> Table {
     table.slots[OTHERS_ITEM as usize] = entity(ITEM, SECOND);
     table.slots[OFFICE_ITEM as usize] = entity(ITEM, 0);
     table.groups[0] = FIRST | SECOND;
+    table.most[0] = 1;
     table.count = 1;
     table
 }

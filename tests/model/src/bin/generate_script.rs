@@ -1,14 +1,26 @@
-//! generate_script SEED COUNT
+//! generate_script SEED COUNT KIND
 //!
-//! Writes a script of COUNT scenes to standard output; SCRIPT.md has the format.
+//! Writes a script of COUNT scenes to standard output; SCRIPT.md has the format. KIND is
+//! `plain`, where each group's number is 1, or `numbers`.
 
-use std::env;
+use std::{env, process::exit};
+
+use hub::generate::scenes::script;
+use hub::generate::world::Numbers;
 
 fn main() {
-    let mut numbers = env::args().skip(1).map(|argument| argument.parse::<u64>().ok());
-    let (Some(Some(seed)), Some(Some(count))) = (numbers.next(), numbers.next()) else {
-        eprintln!("generate_script SEED COUNT");
-        std::process::exit(2)
+    let arguments: Vec<String> = env::args().skip(1).collect();
+    let [seed, count, kind] = arguments.as_slice() else { usage() };
+    let (Ok(seed), Ok(count)) = (seed.parse::<u64>(), count.parse::<usize>()) else { usage() };
+    let numbers = match kind.as_str() {
+        "plain" => Numbers::Ones,
+        "numbers" => Numbers::Near,
+        _ => usage(),
     };
-    print!("{}", hub::generate::scenes::script(seed, count as usize));
+    print!("{}", script(seed, count, numbers));
+}
+
+fn usage() -> ! {
+    eprintln!("generate_script SEED COUNT plain|numbers");
+    exit(2)
 }

@@ -9,7 +9,7 @@ use std::{env, fs};
 
 use hub::generate::scenes::caller_words;
 use hub::hex;
-use hub::hub::{MOST_CONTENT, MOST_GROUPS};
+use hub::hub::{MOST_CONTENT, MOST_GROUPS, NUMBERS};
 use hub::raw::{RawKind, Table};
 use hub::record::LENGTH;
 use hub::script::State;
@@ -136,6 +136,9 @@ fn lacks(table: &Table) -> Vec<&'static str> {
     let mut ways = Vec::new();
     if table.group_count as usize > MOST_GROUPS {
         ways.push("more than 8 groups");
+    }
+    if table.most.iter().take(table.group_count as usize).any(|most| !NUMBERS.contains(most)) {
+        ways.push("a number outside 1 to 64");
     }
     for (entity, area) in table.entities.iter().zip(table.content.chunks(MOST_CONTENT)) {
         let length = entity.length as usize;

@@ -2,6 +2,7 @@
 
 use super::draft::{round_draft, Draft, Lines, CALLS, ENTITIES, GROUPS, NAMES};
 use super::rng::Rng;
+use super::world::Numbers;
 use crate::hex;
 use crate::text::MOST_TEXT;
 
@@ -247,7 +248,7 @@ const BAD_NAMES: [&[&str]; 3] = [
 ];
 
 /// Changes to one line, whatever it holds.
-const LINE_TRICKS: &[(&str, fn(&mut Rng, &mut Vec<u8>))] = &[
+pub const LINE_TRICKS: &[(&str, fn(&mut Rng, &mut Vec<u8>))] = &[
     ("leading-space", |_, line| line.insert(0, b' ')),
     ("trailing-space", |_, line| line.push(b' ')),
     ("trailing-tab", |_, line| line.push(b'\t')),
@@ -266,7 +267,7 @@ const LINE_TRICKS: &[(&str, fn(&mut Rng, &mut Vec<u8>))] = &[
 ];
 
 /// Changes to one line that has a space.
-const SPACE_TRICKS: &[(&str, fn(&mut Rng, &mut Vec<u8>, usize))] = &[
+pub const SPACE_TRICKS: &[(&str, fn(&mut Rng, &mut Vec<u8>, usize))] = &[
     ("double-space", |_, line, at| line.insert(at, b' ')),
     ("tab", |_, line, at| line[at] = b'\t'),
     ("no-space", |_, line, at| {
@@ -282,12 +283,16 @@ const SPACE_TRICKS: &[(&str, fn(&mut Rng, &mut Vec<u8>, usize))] = &[
 
 const BLOCKS: [&str; 3] = ["entities", "groups", "calls"];
 
-/// A small accepted draft with at least two entities, one group and two calls.
 fn base(rng: &mut Rng) -> Draft {
+    small_draft(rng, Numbers::Ones)
+}
+
+/// A small accepted draft with at least two entities, one group and two calls.
+pub fn small_draft(rng: &mut Rng, numbers: Numbers) -> Draft {
     loop {
         let entities = rng.between(2, 5);
         let calls = rng.between(2, 7);
-        let draft = round_draft(rng, entities, calls);
+        let draft = round_draft(rng, numbers, entities, calls);
         let rows = |block: usize| draft.sheets[block].rows.len();
         let short = draft.text().len() < 1200;
         if rows(ENTITIES) >= 2 && (1..8).contains(&rows(GROUPS)) && rows(CALLS) >= 2 && short {
@@ -309,7 +314,7 @@ fn unused_slots(rng: &mut Rng, draft: &Draft) -> Vec<String> {
 }
 
 /// Puts a row at a random place of a block; `@` becomes an unused slot.
-fn insert_anywhere(rng: &mut Rng, draft: &mut Draft, block: usize, row: &str) {
+pub fn insert_anywhere(rng: &mut Rng, draft: &mut Draft, block: usize, row: &str) {
     let slot = unused_slots(rng, draft).remove(0);
     let at = rng.between(0, draft.sheets[block].rows.len());
     draft.insert(block, at, &row.replace('@', &slot));

@@ -1,7 +1,7 @@
 //! Texts as blocks of fields, and whole rounds.
 
 use super::rng::Rng;
-use super::world::{call, world, World};
+use super::world::{call, world, Numbers, World};
 use crate::call::Call;
 use crate::hex;
 use crate::hub::{Entity, Hub, Kind};
@@ -15,6 +15,9 @@ pub const CALLS: usize = 2;
 /// The names of the three blocks in the paper's order.
 pub const NAMES: [&str; 3] =
     ["slot kind sec int sa sd ia id data", "tags", "call caller other set tag data"];
+
+/// The names of the groups where they have numbers.
+pub const WITH_NUMBERS: &str = "tags most";
 
 /// A block: its names in the order of the text, and rows in the same order.
 #[derive(Clone)]
@@ -35,7 +38,8 @@ impl Sheet {
     /// A row given in the paper's order, put into the order of the text.
     pub fn ordered(&self, block: usize, row: &str) -> Vec<String> {
         let fields: Vec<&str> = row.split(' ').collect();
-        let paper: Vec<&str> = NAMES[block].split(' ').collect();
+        let names = if block == GROUPS { WITH_NUMBERS } else { NAMES[block] };
+        let paper: Vec<&str> = names.split(' ').collect();
         self.names
             .iter()
             .map(|name| fields[paper.iter().position(|n| n == name).expect("a name of the paper")])
@@ -50,8 +54,12 @@ pub struct Draft {
 }
 
 impl Draft {
-    pub fn new(rng: &mut Rng) -> Draft {
-        Draft { sheets: NAMES.map(|names| Sheet::new(rng, names)) }
+    pub fn new(rng: &mut Rng, numbers: Numbers) -> Draft {
+        let mut names = NAMES;
+        if numbers == Numbers::Near {
+            names[GROUPS] = WITH_NUMBERS;
+        }
+        Draft { sheets: names.map(|names| Sheet::new(rng, names)) }
     }
 
     /// Adds a row given in the paper's order.
@@ -132,8 +140,8 @@ pub fn call_fields(call: &Call) -> String {
 }
 
 /// The draft of a hub's entities, in random order, and of its groups.
-fn hub_draft(rng: &mut Rng, hub: &Hub) -> Draft {
-    let mut draft = Draft::new(rng);
+fn hub_draft(rng: &mut Rng, hub: &Hub, numbers: Numbers) -> Draft {
+    let mut draft = Draft::new(rng, numbers);
     let mut rows: Vec<String> = hub
         .slots
         .iter()
@@ -145,16 +153,16 @@ fn hub_draft(rng: &mut Rng, hub: &Hub) -> Draft {
         draft.push(ENTITIES, &row);
     }
     for group in &hub.groups {
-        let field = set_field(rng, to_word(group));
-        draft.push(GROUPS, &field);
+        let tags = set_field(rng, to_word(&group.tags));
+        draft.push(GROUPS, &format!("{tags} {}", group.most));
     }
     draft
 }
 
 /// The draft of a text that is accepted, with calls that suit its table.
-pub fn round_draft(rng: &mut Rng, entities: usize, calls: usize) -> Draft {
-    let World { mut hub, pool } = world(rng, entities);
-    let mut draft = hub_draft(rng, &hub);
+pub fn round_draft(rng: &mut Rng, numbers: Numbers, entities: usize, calls: usize) -> Draft {
+    let World { mut hub, pool } = world(rng, entities, numbers);
+    let mut draft = hub_draft(rng, &hub, numbers);
     for _ in 0..calls {
         let call = call(rng, &hub, &pool, SHOW_BUFFER);
         draft.push(CALLS, &call_fields(&call));
@@ -164,7 +172,7 @@ pub fn round_draft(rng: &mut Rng, entities: usize, calls: usize) -> Draft {
 }
 
 /// The text of a rich round.
-pub fn round(rng: &mut Rng) -> Vec<u8> {
+pub fn round(rng: &mut Rng, numbers: Numbers) -> Vec<u8> {
     let few = rng.between(0, 3);
     let some = rng.between(4, 14);
     let many = rng.between(15, 60);
@@ -174,5 +182,5 @@ pub fn round(rng: &mut Rng) -> Vec<u8> {
         1 => rng.between(120, 200),
         _ => rng.between(20, 50),
     };
-    round_draft(rng, entities, calls).text()
+    round_draft(rng, numbers, entities, calls).text()
 }

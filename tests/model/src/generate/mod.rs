@@ -2,6 +2,7 @@
 
 pub mod damage;
 pub mod draft;
+pub mod numbers;
 pub mod rng;
 pub mod scenes;
 pub mod world;

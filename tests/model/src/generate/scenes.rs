@@ -1,34 +1,41 @@
 //! Scripts of scenes: each gives a table and runs calls, previews, checks, audits or loads on it.
 
-use super::damage::{catalogue, Case, Class};
+use super::damage::{self, Case, Class};
 use super::draft::round_draft;
+use super::numbers::{self, some_tags, spread, word};
 use super::rng::Rng;
-use super::world::{call, call_of, caller, world};
+use super::world::{call, call_of, caller, near, world, Numbers};
 use crate::call::{Call, Name};
 use crate::hex;
-use crate::hub::{Entity, Hub, Kind, MOST_CONTENT, MOST_GROUPS, SLOTS};
+use crate::hub::{Entity, Group, Hub, Kind, MOST_CONTENT, MOST_GROUPS, SLOTS};
 use crate::raw::{RawEntity, RawKind, Table};
 use crate::record::LENGTH;
+use crate::refusal::receiver_with_right;
 use crate::script::State;
 use crate::tags::{from_word, to_word, Tags, LAST_TAG};
 
 /// A script of `count` scenes with a dump at its end.
-pub fn script(seed: u64, count: usize) -> String {
-    let cases = catalogue();
+pub fn script(seed: u64, count: usize, numbers: Numbers) -> String {
+    let cases = match numbers {
+        Numbers::Ones => damage::catalogue(),
+        Numbers::Near => numbers::catalogue(),
+    };
     let previews = Rng::for_case(seed, u64::MAX);
     let checks = Rng::for_case(seed, u64::MAX - 1);
-    let mut script = Script { lines: String::new(), state: State::start(), previews, checks };
+    let mut script = Script { lines: String::new(), state: State::start(), numbers, previews, checks };
     for index in 0..count {
         let rng = &mut Rng::for_case(seed, index as u64);
         let turn = seed as usize + index;
-        match turn % 7 {
+        let scenes = if numbers == Numbers::Near { 8 } else { 7 };
+        match turn % scenes {
             0 => calls(rng, &mut script, false),
-            1 => lacking_form(rng, &mut script, turn / 7),
+            1 => lacking_form(rng, &mut script, turn / scenes),
             2 => lists(rng, &mut script),
             3 => calls(rng, &mut script, true),
             4 => at_limits(rng, &mut script),
             5 => loads(rng, &mut script, &cases),
-            _ => runs(rng, &mut script),
+            6 => runs(rng, &mut script),
+            _ => at_numbers(rng, &mut script),
         }
         if index + 1 == count || rng.chance(20) {
             script.push("dump\n");
@@ -41,6 +48,8 @@ pub fn script(seed: u64, count: usize) -> String {
 struct Script {
     lines: String,
     state: State,
+    /// The numbers of its groups.
+    numbers: Numbers,
     /// Draws the previews and nothing else, so that the other lines do not depend on them.
     previews: Rng,
     /// The same for the checks.
@@ -59,7 +68,7 @@ impl Script {
     /// hub.
     fn call(&mut self, hub: &Hub, pool: &[u8], call: &Call) {
         if self.checks.chance(25) {
-            let held = held(&mut self.checks, hub, pool, call);
+            let held = held(&mut self.checks, hub, self.numbers, pool, call);
             self.push(&check_line(&held));
         }
         if self.previews.chance(20) {
@@ -107,7 +116,15 @@ pub fn table_lines(table: &Table) -> String {
         let words: Vec<String> = table.groups.iter().map(|word| format!("{word:016x}")).collect();
         lines.push_str(&format!("groups {} {}\n", table.group_count, words.join(" ")));
     }
+    if table.most != [1; MOST_GROUPS] {
+        lines.push_str(&most_line(&table.most));
+    }
     lines
+}
+
+fn most_line(most: &[u8; MOST_GROUPS]) -> String {
+    let words: Vec<String> = most.iter().map(u8::to_string).collect();
+    format!("most {}\n", words.join(" "))
 }
 
 fn slot_line(slot: usize, entity: &RawEntity) -> String {
@@ -155,17 +172,44 @@ pub fn caller_words(table: &Table, caller: u8) -> &'static str {
     }
 }
 
-/// The table of a random accepted hub, at times with words beyond the group count, and the tags
-/// that most of its labels are drawn from.
-fn table(rng: &mut Rng, entities: usize) -> (Table, Vec<u8>) {
-    let world = world(rng, entities);
+/// The table of a random accepted hub, at times with words and numbers beyond the group count, and
+/// the tags that most of its labels are drawn from.
+fn table(rng: &mut Rng, entities: usize, numbers: Numbers) -> (Table, Vec<u8>) {
+    let world = world(rng, entities, numbers);
     let mut table = Table::of_hub(&world.hub);
+    let count = table.group_count as usize;
     if rng.chance(40) {
-        for word in table.groups.iter_mut().skip(table.group_count as usize) {
+        for word in table.groups.iter_mut().skip(count) {
             *word = if rng.chance(50) { u64::MAX } else { rng.next() };
         }
     }
+    if numbers == Numbers::Near && rng.chance(40) {
+        table.most[count..].fill_with(|| number_beyond(rng));
+    }
     (table, world.pool)
+}
+
+/// A number for a group beyond the count, such as none within may have too.
+fn number_beyond(rng: &mut Rng) -> u8 {
+    let any = rng.byte();
+    rng.pick(&[0, 0, 2, 64, 65, 255, any])
+}
+
+/// Numbers about those of the tags that the other of a call, with the new right in a hand, or some
+/// entity has of each group.
+fn numbers_about(rng: &mut Rng, hub: &Hub, call: &Call) -> [u8; MOST_GROUPS] {
+    let other = call.other.and_then(|slot| hub.entity(slot));
+    let entities: Vec<&Entity> = hub.slots.iter().flatten().collect();
+    let held = match other {
+        Some(other) => receiver_with_right(other, call).tags(),
+        None if entities.is_empty() => Tags::new(),
+        None => rng.pick(&entities).tags(),
+    };
+    let mut most = [0; MOST_GROUPS].map(|_| number_beyond(rng));
+    for (number, group) in most.iter_mut().zip(&hub.groups) {
+        *number = near(rng, group.tags.intersection(&held).count());
+    }
+    most
 }
 
 /// A call with inputs that a text cannot give: buffers and puts of any length.
@@ -189,14 +233,18 @@ fn unbound_call(rng: &mut Rng, hub: &Hub, pool: &[u8]) -> Call {
 
 /// What to check before a call: all that its other or some entity holds, some tags of a group, or
 /// any tags; at times with the tag of the call or another one.
-fn held(rng: &mut Rng, hub: &Hub, pool: &[u8], call: &Call) -> Tags {
+fn held(rng: &mut Rng, hub: &Hub, numbers: Numbers, pool: &[u8], call: &Call) -> Tags {
     let other = call.other.and_then(|slot| hub.entity(slot));
     let entities: Vec<&Entity> = hub.slots.iter().flatten().collect();
     let mut held = match (rng.below(10), other) {
         (0..=4, Some(other)) => other.tags(),
         (0..=5, _) if !entities.is_empty() => rng.pick(&entities).tags(),
         (6..=7, _) if !hub.groups.is_empty() => {
-            rng.pick(&hub.groups).into_iter().filter(|_| rng.chance(70)).collect()
+            let group = rng.pick(&hub.groups);
+            match numbers {
+                Numbers::Ones => group.tags.into_iter().filter(|_| rng.chance(70)).collect(),
+                Numbers::Near => about_as_many(rng, group),
+            }
         }
         (8, _) => from_word(rng.next() & rng.next()),
         _ => from_word(rng.pick(&[0, 0, u64::MAX])),
@@ -208,31 +256,52 @@ fn held(rng: &mut Rng, hub: &Hub, pool: &[u8], call: &Call) -> Tags {
     held
 }
 
-/// Makes such a call.
+/// Tags of a group, about as many as its number.
+fn about_as_many(rng: &mut Rng, group: Group) -> Tags {
+    let mut tags: Vec<u8> = group.tags.into_iter().collect();
+    rng.shuffle(&mut tags);
+    tags.truncate(group.most as usize + rng.below(2));
+    tags.into_iter().collect()
+}
+
+/// Makes such a call, at times after new numbers.
 fn library_call(rng: &mut Rng, script: &mut Script, pool: &[u8]) {
-    let hub = script.hub();
-    let call = unbound_call(rng, &hub, pool);
-    script.call(&hub, pool, &call);
+    let call = unbound_call(rng, &script.hub(), pool);
+    if script.numbers == Numbers::Near && rng.chance(15) {
+        let most = numbers_about(rng, &script.hub(), &call);
+        script.push(&most_line(&most));
+    }
+    script.call(&script.hub(), pool, &call);
 }
 
 /// Calls on a table, and audits of their records. `breaking` puts an entity
 /// that breaks a group into the table.
 fn calls(rng: &mut Rng, script: &mut Script, breaking: bool) {
     let entities = rng.between(3, 10);
-    let (mut table, pool) = table(rng, entities);
+    let (mut table, pool) = table(rng, entities, script.numbers);
     if breaking {
-        let (one, two) = (pool[0], pool[1]);
-        table.group_count = table.group_count.max(1);
-        table.groups[0] |= 1 << one | 1 << two;
+        if table.group_count == 0 {
+            table.group_count = 1;
+            table.most[0] = 1;
+        }
+        let most = table.most[0].min(LAST_TAG);
+        table.most[0] = most;
+        let mut tags = Tags::new();
+        for tag in pool.iter().copied().chain(0..=LAST_TAG) {
+            if tags.len() <= most as usize {
+                tags.insert(tag);
+            }
+        }
+        table.groups[0] |= to_word(&tags);
         let slot = rng.below(SLOTS);
-        let mut entity = Entity::new(Kind::Program, [one].into(), [].into());
+        let mut entity = Entity::new(Kind::Program, [pool[0]].into(), [].into());
         let right = rng.below(4);
-        entity.rights[right].extend([one, two]);
+        entity.rights[right].extend(tags);
         let mut hub = table.to_hub();
         hub.slots[slot] = Some(entity);
-        let groups = (table.group_count, table.groups);
+        let groups = (table.group_count, table.groups, table.most);
         table = Table::of_hub(&hub);
-        (table.group_count, table.groups) = groups;
+        (table.group_count, table.groups, table.most) = groups;
     }
     script.push(&table_lines(&table));
     for _ in 0..rng.between(8, 20) {
@@ -272,7 +341,7 @@ fn audits_of_run(rng: &mut Rng, script: &mut Script) {
 /// Lists made by hand: any bytes 0 to 7, needs around the S of some caller.
 fn lists(rng: &mut Rng, script: &mut Script) {
     let entities = rng.between(2, 6);
-    let (mut table, pool) = table(rng, entities);
+    let (mut table, pool) = table(rng, entities, script.numbers);
     let auditor = rng.below(SLOTS);
     table.entities[auditor].kind = RawKind::Program;
     table.entities[auditor].secrecy |= 1 << 5 | 1 << 63;
@@ -330,8 +399,9 @@ fn slots_of(table: &Table, kind: RawKind) -> Vec<usize> {
     (0..SLOTS).filter(|slot| table.entities[*slot].kind == kind).collect()
 }
 
-/// The ways in which a table lacks the form.
+/// The ways in which a table lacks the form, and more turns for a number outside 1 to 64.
 const DEFECTS: usize = 20;
+const NUMBER_DEFECTS: usize = 4;
 
 fn put_defect(rng: &mut Rng, table: &mut Table, defect: usize) {
     let free = rng.pick(&slots_of(table, RawKind::Free));
@@ -364,6 +434,13 @@ fn put_defect(rng: &mut Rng, table: &mut Table, defect: usize) {
         16 => table.content[area(free) + rng.pick(&[0, 1, 63])] = 255,
         17 => table.group_count = 9,
         18 => table.group_count = rng.pick(&[10, 64, 255]),
+        20.. => {
+            let count = rng.between(1, MOST_GROUPS);
+            table.group_count = count as u8;
+            table.most[..count].fill_with(|| rng.between(1, 64) as u8);
+            let any = rng.between(66, 255) as u8;
+            table.most[rng.below(count)] = rng.pick(&[0, 0, 65, 255, any]);
+        }
         _ => {
             table.entities[31] = RawEntity::default();
             table.content[area(31)..].fill(0);
@@ -375,7 +452,8 @@ fn put_defect(rng: &mut Rng, table: &mut Table, defect: usize) {
 /// Calls and audits on tables that lack the form, four ways in each turn; then an
 /// audit of the last records after an accepted load.
 fn lacking_form(rng: &mut Rng, script: &mut Script, turn: usize) {
-    let (mut table, pool) = table(rng, 4);
+    let (mut table, pool) = table(rng, 4, script.numbers);
+    let defects = DEFECTS + if script.numbers == Numbers::Near { NUMBER_DEFECTS } else { 0 };
     for (slot, kind) in [(5, RawKind::Item), (9, RawKind::Program)] {
         table.entities[slot] = RawEntity { kind, ..RawEntity::default() };
         table.content[slot * MOST_CONTENT..][..MOST_CONTENT].fill(0);
@@ -383,7 +461,7 @@ fn lacking_form(rng: &mut Rng, script: &mut Script, turn: usize) {
     let hub = table.to_hub();
     for way in 0..4 {
         let mut lacking = table.clone();
-        put_defect(rng, &mut lacking, (4 * turn + way) % DEFECTS);
+        put_defect(rng, &mut lacking, (DEFECTS + 4 * turn + way) % defects);
         script.push(&table_lines(&lacking));
         for name in Name::ALL {
             if rng.chance(40) {
@@ -405,7 +483,7 @@ fn lacking_form(rng: &mut Rng, script: &mut Script, turn: usize) {
             script.push("dump\n");
         }
     }
-    let text = round_draft(rng, 3, 1).text();
+    let text = round_draft(rng, script.numbers, 3, 1).text();
     script.push(&format!("load {}\n", hex::digits(&text)));
     audits_of_run(rng, script);
 }
@@ -432,6 +510,10 @@ fn at_limits(rng: &mut Rng, script: &mut Script) {
     }
     table.group_count = rng.pick(&[0, 1, 7, 8]);
     table.groups = [(); MOST_GROUPS].map(|_| rng.pick(&[0, 1, 1 << 63, 1 | 1 << 63, full]));
+    if script.numbers == Numbers::Near {
+        table.most = [(); MOST_GROUPS].map(|_| rng.pick(&[1, 2, 3, 63, 64]));
+        table.most[table.group_count as usize..].fill_with(|| number_beyond(rng));
+    }
     script.push(&table_lines(&table));
     for slot in [0, 30, 31] {
         let length = table.entities[slot].length as usize;
@@ -447,10 +529,42 @@ fn at_limits(rng: &mut Rng, script: &mut Script) {
     audits_of_run(rng, script);
 }
 
+/// Hands to programs that have as many tags of a group as its number, or one less.
+fn at_numbers(rng: &mut Rng, script: &mut Script) {
+    let mut table = Table::empty();
+    table.entities[0] = RawEntity { kind: RawKind::Program, rights: [u64::MAX; 4], ..RawEntity::default() };
+    table.group_count = rng.pick(&[1, 1, 1, 2, 3, 8]);
+    let mut groups = Vec::new();
+    for place in 0..table.group_count as usize {
+        let any = rng.between(1, 64);
+        let most = rng.pick(&[1, 2, 3, 3, 62, 63, 63, 64, 64, any]);
+        let count = rng.between(most, 64);
+        let group = some_tags(rng, count);
+        table.most[place] = most as u8;
+        table.groups[place] = word(&group);
+        groups.push((group, most));
+    }
+    for slot in 1..5 {
+        let (mut group, most) = rng.pick(&groups);
+        rng.shuffle(&mut group);
+        group.truncate(most - rng.below(2));
+        let [secrecy, integrity, rights @ ..] = spread(rng, &group, 6);
+        table.entities[slot] = RawEntity { kind: RawKind::Program, secrecy, integrity, rights, length: 0 };
+    }
+    script.push(&table_lines(&table));
+    for _ in 0..rng.between(10, 20) {
+        let (group, _) = rng.pick(&groups);
+        let tag = if rng.chance(90) { rng.pick(&group) } else { rng.below(64) as u8 };
+        let hand = Call::hand(0, rng.between(1, 4) as u8, rng.below(4) as u8, tag);
+        script.call(&script.hub(), &group, &hand);
+    }
+    audits_of_run(rng, script);
+}
+
 /// Loads of accepted and refused texts over a table that is not empty.
 fn loads(rng: &mut Rng, script: &mut Script, cases: &[Case]) {
     for _ in 0..rng.between(3, 5) {
-        let (table, pool) = table(rng, 3);
+        let (table, pool) = table(rng, 3, script.numbers);
         script.push(&table_lines(&table));
         let class = rng.pick(&[Class::Form, Class::Twice, Class::Breaks, Class::Inside, Class::Inside]);
         let of_class: Vec<&Case> = cases.iter().filter(|case| case.class == class).collect();
@@ -465,7 +579,7 @@ fn loads(rng: &mut Rng, script: &mut Script, cases: &[Case]) {
 
 /// What makes the list of `run` empty and what does not.
 fn runs(rng: &mut Rng, script: &mut Script) {
-    let (mut table, pool) = table(rng, 6);
+    let (mut table, pool) = table(rng, 6, script.numbers);
     table.entities[7].kind = RawKind::Program;
     script.push(&table_lines(&table));
     audits_of_run(rng, script);
@@ -484,7 +598,7 @@ fn runs(rng: &mut Rng, script: &mut Script) {
         script.audit(rng, 7, None, length);
     }
     some_calls(rng, script, &pool);
-    let text = round_draft(rng, 5, 1).text();
+    let text = round_draft(rng, script.numbers, 5, 1).text();
     let refused = &text[..text.len() - 1];
     let text = if rng.chance(70) { &text } else { refused };
     script.push(&format!("load {}\n", hex::digits(text)));

@@ -2,9 +2,9 @@
 
 use super::rng::Rng;
 use crate::call::{Call, Name};
-use crate::hub::{flow, Entity, Hub, Kind, MOST_CONTENT, MOST_GROUPS, SLOTS};
+use crate::hub::{flow, Entity, Group, Hub, Kind, MOST_CONTENT, MOST_GROUPS, NUMBERS, SLOTS};
 use crate::refusal::{needed_right, receiver_with_right};
-use crate::tags::Tags;
+use crate::tags::{Tags, LAST_TAG};
 
 /// A hub and the few tags that most of its labels and rights are drawn from.
 pub struct World {
@@ -12,17 +12,43 @@ pub struct World {
     pub pool: Vec<u8>,
 }
 
+/// The numbers of a hub's groups.
+#[derive(Clone, Copy, PartialEq, Eq)]
+pub enum Numbers {
+    /// Each is 1.
+    Ones,
+    /// Mostly about as many as the tags of the group that entities have.
+    Near,
+}
+
 /// An accepted hub with about `entities` entities.
-pub fn world(rng: &mut Rng, entities: usize) -> World {
+pub fn world(rng: &mut Rng, entities: usize, numbers: Numbers) -> World {
     let pool = pool(rng);
     let mut hub = Hub::empty();
     hub.groups = groups(rng, &pool);
     let labels: Vec<(Tags, Tags)> = (0..rng.between(1, 3))
         .map(|_| (some_of(rng, &pool, 35), some_of(rng, &pool, 25)))
         .collect();
+    let large = numbers == Numbers::Near && rng.chance(35);
+    if numbers == Numbers::Near {
+        for group in &mut hub.groups {
+            let count = if large && rng.chance(70) {
+                group.tags = nearly_all(rng);
+                rng.between(63, 64)
+            } else {
+                group.tags.intersection(&entity(rng, &pool, &labels).tags()).count()
+            };
+            group.most = near(rng, count);
+        }
+    }
     for _ in 0..entities {
         let slot = rng.below(SLOTS);
         let mut entity = entity(rng, &pool, &labels);
+        if large && entity.kind == Kind::Program && rng.chance(50) {
+            for tag in nearly_all(rng) {
+                entity.rights[rng.below(4)].insert(tag);
+            }
+        }
         for group in &hub.groups {
             keep_to(rng, &mut entity, group);
         }
@@ -43,9 +69,25 @@ fn pool(rng: &mut Rng) -> Vec<u8> {
     pool
 }
 
-fn groups(rng: &mut Rng, pool: &[u8]) -> Vec<Tags> {
+fn groups(rng: &mut Rng, pool: &[u8]) -> Vec<Group> {
     let count = rng.pick(&[0, 0, 1, 1, 2, 3, 4, 5, 8]);
-    (0..count.min(MOST_GROUPS)).map(|_| group(rng, pool)).collect()
+    (0..count.min(MOST_GROUPS)).map(|_| Group { tags: group(rng, pool), most: 1 }).collect()
+}
+
+/// A number for a group of which somebody has `count` tags.
+pub fn near(rng: &mut Rng, count: usize) -> u8 {
+    let any = rng.between(1, 64);
+    let number = rng.pick(&[count, count, count, count + 1, count.saturating_sub(1), 1, 2, 3, 63, 64, any]);
+    (number as u8).clamp(*NUMBERS.start(), *NUMBERS.end())
+}
+
+/// All tags but a few.
+fn nearly_all(rng: &mut Rng) -> Tags {
+    let mut tags: Tags = (0..=LAST_TAG).collect();
+    for _ in 0..rng.pick(&[0, 0, 1, 1, 1, 2]) {
+        tags.remove(&(rng.below(64) as u8));
+    }
+    tags
 }
 
 fn group(rng: &mut Rng, pool: &[u8]) -> Tags {
@@ -87,10 +129,10 @@ fn content_length(rng: &mut Rng) -> usize {
 }
 
 /// Takes tags off until the entity keeps to the group.
-fn keep_to(rng: &mut Rng, entity: &mut Entity, group: &Tags) {
-    let mut common: Vec<u8> = entity.tags().intersection(group).copied().collect();
+fn keep_to(rng: &mut Rng, entity: &mut Entity, group: &Group) {
+    let mut common: Vec<u8> = entity.tags().intersection(&group.tags).copied().collect();
     rng.shuffle(&mut common);
-    for tag in common.iter().skip(1) {
+    for tag in common.iter().skip(group.most as usize) {
         entity.secrecy.remove(tag);
         entity.integrity.remove(tag);
         entity.rights.iter_mut().for_each(|right| {
