@@ -12,7 +12,7 @@ use lib.Dec.{eqb, ltb}
 use lib.ListN.{length, length-append}
 use borrow.Author.Tests.{ltb-true}
 use Rattle.rules.specs.Table.{Slot, is_free, slot_keeps, slot_formed, keeps_all, parts_formed, accepted}
-use Rattle.rules.proofs.Facts.{and_left, and_right, both}
+use Rattle.rules.proofs.Facts.{and_right, both}
 use Rattle.rules.proofs.Bounded.{all_of}
 use Rattle.label.specs.declared.Group.{Group}
 use Rattle.label.specs.Tags.{group_formed}
@@ -36,6 +36,7 @@ use Rattle.load.specs.Tables.{Stored, groups_from, none_stored, breaks_at, with_
 use Rattle.load.specs.Load.{Verdict, refuse_at, verdict_of, on_accepted, load_of}
 use Rattle.load.specs.Claims.{LoadsAccepted}
 use Rattle.grouprows.proofs.Laws.{row_formed}
+use Rattle.load.proofs.Rows.{gathered}
 use Rattle.load.proofs.EntityLines.{Sound, row_sound}
 
 -- ---- tables whose entities keep to their groups
@@ -125,22 +126,20 @@ fill-keeps cs (line l ls) n s k = go (entity_of cs (fields_in l)) refl (λ u j. 
     go (Some y) e ih = either_kept (is_free (entity_at s.table y.slot).kind) _ _ (ih (with_entity n s y) (entity-kept n s y (row_sound cs (fields_in l) y e) k)) k
 
 -- at most 8 groups, each with a number from 1 to 64
-one_more : (gs : List Group) (g : Group) → list_all group_formed gs ≡ true → words.group_formed g ≡ true → list_all group_formed (gs ++ (g ∷ [])) ≡ true
-one_more [] g h k = both (words.group_formed g) true k refl
-one_more (x ∷ gs) g h k = both (words.group_formed x) _ (and_left (words.group_formed x) _ h) (one_more gs g (and_right (words.group_formed x) _ h) k)
-
-gathered : (cs : GroupColumns) (ls : Lines) (gs : List Group) → Allowed gs → Allowed (groups_from cs gs ls)
+few : (cs : GroupColumns) (ls : Lines) (gs : List Group) → length gs ≤ 8 → length (groups_from cs gs ls) ≤ 8
 unfolding groups_from
-gathered cs done gs h = h
-gathered cs cut gs h = h
-gathered cs (line l ls) gs h = go (group_of cs (fields_in l)) (ltb (length gs) 8) refl refl (λ g. gathered cs ls (gs ++ (g ∷ [])))
+few cs done gs h = h
+few cs cut gs h = h
+few cs (line l ls) gs h = go (group_of cs (fields_in l)) (ltb (length gs) 8) refl (λ g k. few cs ls (gs ++ (g ∷ [])) (omega (arith, length-append gs (g ∷ []))))
   where
-    go : (o : Option Group) (b : Bool) → group_of cs (fields_in l) ≡ o → ltb (length gs) 8 ≡ b
-        → ((g : Group) → Allowed (gs ++ (g ∷ [])) → Allowed (groups_from cs (gs ++ (g ∷ [])) ls))
-        → Allowed (option_map_or (λ g. cond b (groups_from cs (gs ++ (g ∷ [])) ls) gs) o gs)
-    go None b p e ih = h
-    go (Some g) true p e ih = ih g (record { few = omega (arith, ltb-true (length gs) 8 e, length-append gs (g ∷ [])); each = one_more gs g h.each (row_formed cs (fields_in l) g p) })
-    go (Some g) false p e ih = h
+    go : (o : Option Group) (b : Bool) → ltb (length gs) 8 ≡ b → ((g : Group) → length gs < 8 → length (groups_from cs (gs ++ (g ∷ [])) ls) ≤ 8)
+        → length (option_map_or (λ g. cond b (groups_from cs (gs ++ (g ∷ [])) ls) gs) o gs) ≤ 8
+    go None b e ih = h
+    go (Some g) true e ih = ih g (ltb-true (length gs) 8 e)
+    go (Some g) false e ih = h
+
+all_allowed : (cs : GroupColumns) (ls : Lines) → Allowed (groups_from cs [] ls)
+all_allowed cs ls = record { few = few cs ls [] (omega arith); each = gathered cs group_formed (row_formed cs) ls [] refl }
 
 none_allowed : Allowed []
 none_allowed = record { few = omega arith; each = refl }
@@ -174,7 +173,7 @@ module _ (text : List ℕ) where
   unfolding table_in entities_in entities_on groups_in
   table_keeping b =
       fill-keeps (entity_columns (names_at text start)) (rows_at text start) 2 (none_stored (empty_with (groups_in text)))
-      (λ e. empty_keeping (groups_in text) (gathered (group_columns_in text) (rows_at text (groups_at text)) [] none_allowed)) b
+      (λ e. empty_keeping (groups_in text) (all_allowed (group_columns_in text) (rows_at text (groups_at text)))) b
 
 pub loads_accepted : LoadsAccepted
 unfolding load_of

@@ -7,10 +7,10 @@ use Rattle.std.specs.Prelude.{Option, None, Some, Ok, Err}
 use Rattle.std.specs.Option.{option_map_or}
 use Prim.Native.Nat.{ℕ, zero, suc, ◌+◌, ◌-◌, ◌≤◌}
 use native.Mathlib.Omega.{arith}
-use lib.Dec.{ltb}
+use lib.Dec.{ltb, eqb}
 use lib.ListN.{length, get_or, replicate}
 use Rattle.rules.specs.Table.{is_free}
-use Rattle.rules.proofs.Facts.{either}
+use Rattle.rules.proofs.Facts.{and_left, and_right, either}
 use Rattle.label.specs.declared.Group.{Group}
 use Rattle.label.specs.declared.Label.{Label}
 use Rattle.label.specs.Tags.{empty}
@@ -25,8 +25,10 @@ use Rattle.grouprows.proofs.Laws.{row_one, plain_numbers}
 use Rattle.rows.specs.declared.EntityColumns.{EntityColumns}
 use Rattle.rows.specs.Entities.{EntitySaid, entity_columns, entity_of}
 use Rattle.textblocks.specs.Blocks.{start, names_at, rows_at, groups_at, group_columns_in}
-use Rattle.load.proofs.Rows.{empty-count}
-use Rattle.load.specs.Tables.{Stored, groups_from, none_stored, with_entity, fill, groups_in, entities_on, entities_in, table_in}
+use Rattle.std.specs.List.{list_all}
+use borrow.Author.Tests.{eqb-true, eq-eqb}
+use Rattle.load.proofs.Rows.{gathered, empty-count}
+use Rattle.load.specs.Tables.{Stored, none_stored, with_entity, fill, groups_in, entities_on, entities_in, table_in}
 use Rattle.load.specs.Load.{Verdict, verdict_of, on_accepted, load_of}
 use Rattle.load.specs.Claims.{PlacesUnused, OnesWithoutNumbers}
 
@@ -77,32 +79,18 @@ with_unused gs i l = record { tags = beyond (λ g. g.tags) empty (8 - length gs)
 
 -- ---- a text without numbers
 
-Ones : List Group → Type 0
-Ones [] = Unit {0}
-Ones (g ∷ gs) = (g.most ≡ 1) × Ones gs
+is_one : Group → Bool
+is_one g = eqb g.most 1
 
-one_more : (gs : List Group) (g : Group) → Ones gs → g.most ≡ 1 → Ones (gs ++ (g ∷ []))
-unfolding Ones
-one_more [] g h e = (e, tt)
-one_more (x ∷ gs) g h e = (h.0, one_more gs g h.1 e)
+one_row : (cs : GroupColumns) → cs.numbered ≡ false → (fs : List (List ℕ)) (g : Group) → group_of cs fs ≡ Some g → is_one g ≡ true
+unfolding is_one
+one_row cs p fs g e = eq-eqb g.most 1 (row_one cs fs g p e)
 
-gathered : (cs : GroupColumns) → cs.numbered ≡ false → (ls : Lines) (gs : List Group) → Ones gs → Ones (groups_from cs gs ls)
-unfolding groups_from
-gathered cs p done gs h = h
-gathered cs p cut gs h = h
-gathered cs p (line l ls) gs h = go (group_of cs (fields_in l)) refl (ltb (length gs) 8) (λ g. gathered cs p ls (gs ++ (g ∷ [])))
-  where
-    go : (o : Option Group) → group_of cs (fields_in l) ≡ o → (b : Bool) → ((g : Group) → Ones (gs ++ (g ∷ [])) → Ones (groups_from cs (gs ++ (g ∷ [])) ls))
-        → Ones (option_map_or (λ g. cond b (groups_from cs (gs ++ (g ∷ [])) ls) gs) o gs)
-    go None q b ih = h
-    go (Some g) q true ih = ih g (one_more gs g h (row_one cs (fields_in l) g p q))
-    go (Some g) q false ih = h
-
-one_at : (n : ℕ) (gs : List Group) (i : ℕ) → Ones gs → get_or (map (λ g. g.most) gs ++ replicate n 1) i 1 ≡ 1
-unfolding Ones
+one_at : (n : ℕ) (gs : List Group) (i : ℕ) → list_all is_one gs ≡ true → get_or (map (λ g. g.most) gs ++ replicate n 1) i 1 ≡ 1
+unfolding is_one
 one_at n [] i h = behind n i 1
-one_at n (g ∷ gs) zero h = h.0
-one_at n (g ∷ gs) (suc i) h = one_at n gs i h.1
+one_at n (g ∷ gs) zero h = eqb-true g.most 1 (and_left (eqb g.most 1) _ h)
+one_at n (g ∷ gs) (suc i) h = one_at n gs i (and_right (eqb g.most 1) _ h)
 
 -- ---- the table of a text
 
@@ -119,10 +107,10 @@ module _ (text : List ℕ) where
       }
 
   ones : names_at text (groups_at text) ≡ plain_names → (i : ℕ) → most_in (table_in text) i ≡ 1
-  unfolding groups_in group_columns_in empty_with Ones
+  unfolding groups_in group_columns_in empty_with
   ones e i =
       ap (λ (ns : List ℕ). get_or ns i 1) same.most
-      ∙ one_at _ (groups_in text) i (gathered (group_columns_in text) (ap (λ (hs : List (List ℕ)). (group_columns hs).numbered) e ∙ plain_numbers) (rows_at text (groups_at text)) [] tt)
+      ∙ one_at _ (groups_in text) i (gathered (group_columns_in text) is_one (one_row (group_columns_in text) (ap (λ (hs : List (List ℕ)). (group_columns hs).numbered) e ∙ plain_numbers)) (rows_at text (groups_at text)) [] refl)
 
 empty_unused : (i : ℕ) → Unused empty_table i
 empty_unused i = subst (λ (t : Table). Unused t i) empty-none (with_unused [] i (omega (arith, empty-count [])))

@@ -1,9 +1,14 @@
 -- What the definitions of the entities and groups of a text say at one row.
 -- Assumes nothing.
 use mathlib.Core.Path.{◌≡◌, refl, sym, ap, ap₂, ◌∙◌}
-use mathlib.Core.Bool.{true, false}
+use mathlib.Core.Bool.{Bool, true, false, cond}
 use mathlib.Core.List.{List, [], ◌∷◌, ◌++◌, map, map-append, append_assoc}
 use Rattle.std.specs.Prelude.{Option, None, Some}
+use Rattle.std.specs.Option.{option_map_or}
+use Rattle.std.specs.List.{list_all}
+use Rattle.std.proofs.lemmas.List.Folds.{list_all-append}
+use Rattle.rules.proofs.Facts.{both}
+use lib.Dec.{ltb}
 use Prim.Native.Nat.{ℕ, suc, ◌+◌, ◌-◌, ◌≤◌, ◌<◌}
 use native.Mathlib.Omega.{arith}
 use lib.ListN.{length, set, replicate, length-append, length-map}
@@ -61,6 +66,21 @@ module _ (cs : GroupColumns) (gs : List Group) where
       pub groups_step : length gs < 8 → groups_from cs gs all ≡ groups_from cs (gs ++ (g ∷ [])) ls
       unfolding groups_from
       groups_step k = rw (w, groups_from, e, lt-ltb _ _ k)
+
+-- what is true of each row that is a group is true of each group gathered
+module _ (cs : GroupColumns) (p : Group → Bool) (each : (fs : List (List ℕ)) (g : Group) → group_of cs fs ≡ Some g → p g ≡ true) where
+  pub gathered : (ls : Lines) (gs : List Group) → list_all p gs ≡ true → list_all p (groups_from cs gs ls) ≡ true
+  unfolding groups_from
+  gathered done gs h = h
+  gathered cut gs h = h
+  gathered (line l ls) gs h = go (group_of cs (fields_in l)) refl (ltb (length gs) 8) (λ g. gathered ls (gs ++ (g ∷ [])))
+    where
+      go : (o : Option Group) → group_of cs (fields_in l) ≡ o → (b : Bool)
+          → ((g : Group) → list_all p (gs ++ (g ∷ [])) ≡ true → list_all p (groups_from cs (gs ++ (g ∷ [])) ls) ≡ true)
+          → list_all p (option_map_or (λ g. cond b (groups_from cs (gs ++ (g ∷ [])) ls) gs) o gs) ≡ true
+      go None q b ih = h
+      go (Some g) q true ih = ih g (list_all-append p gs (g ∷ []) ∙ both _ _ h (both (p g) true (each (fields_in l) g q) refl))
+      go (Some g) q false ih = h
 
 pub empty-count : (gs : List Group) → (empty_with gs).count ≡ length gs
 unfolding empty_with
