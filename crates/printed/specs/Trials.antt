@@ -20,7 +20,7 @@ trial_text rows =
     ++ ascii "call caller other set tag data\n"
 
 pub record TrialsLoad : Type 0 where
-  -- accepted, and each group has its own number; the trial program has two tags of each
+  -- accepted, and each group has its own number
   pub accepted : verdict_of (trial_text (ascii "f 3\n5 2\n")) ≡ Ok tt
   pub groups : groups_of (load_of (trial_text (ascii "f 3\n5 2\n"))).table ≡ group 15 3 ∷ group 5 2 ∷ []
   -- 17 at its line, by the number of the group that it breaks, wherever that stands
