@@ -30,7 +30,7 @@ pub struct Uses {
 }
 
 // What a line of the calls says: a call, and the bytes put.
-#[derive(Drop)]
+#[derive(Clone, Copy)]
 pub struct CallRow {
     pub call: Call,
     pub put: Data,

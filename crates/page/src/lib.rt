@@ -8,7 +8,7 @@ ghost use Rattle.print.specs.Lines.{line_with};
 ghost use Rattle.tally.specs.Tally.{tally_of};
 ghost use Rattle.page.specs.Page.{caller_text, cell, row_line, row_size, page_size, page_of, page_or_refusal, page_output, IsTooLong};
 
-use arrayvec::ArrayVec;
+use bounded::ByteVec;
 use records::SIZE;
 use rules::Refusal;
 use std::io;
@@ -17,7 +17,7 @@ use stdio::Input;
 use tally::{CALLERS, Row, Tally};
 
 // A page: the names take 80 bytes, and a row at most 425, a word of 4, a space and 20 digits for each of 20 numbers, and byte 10.
-pub type Page = ArrayVec<u8, 14105>;
+pub type Page = ByteVec<14105>;
 
 // A number behind a space.
 #[tactic(auto, using(crate::proofs::Pages::cell_short))]

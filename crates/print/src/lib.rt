@@ -6,20 +6,18 @@ ghost use Rattle.rules.specs.Record.{record_size};
 ghost use Rattle.label.specs.Words.{words};
 ghost use Rattle.print.specs.Lines.{digit_text, hex_text, data_text, decimal_text, call_line, record_line, refused_text, refused_line, refused_audit, line_size, line_with};
 
-use arrayvec::ArrayVec;
+use bounded::ByteVec;
 
 // A line. The longest is that of a record and 64 bytes shown.
-pub type Line = ArrayVec<u8, 162>;
+pub type Line = ByteVec<162>;
 
 // Each push puts something behind a line of any room, as much of it as has room. By a reference: a line that goes in and comes back
 // by value is copied at each byte.
 
-pub fn push_bytes<const N: usize>(line: &mut ArrayVec<u8, N>, src: &[u8])
+pub fn push_bytes<const N: usize>(line: &mut ByteVec<N>, src: &[u8])
     ensures { line.new.items ≡ line_with N line.old.items src.now }
 {
-    let room = line.remaining_capacity();
-    line.try_extend_from_slice(handing::front(src, room))
-        .unwrap();
+    line.extend(src);
 }
 
 // `char::from_digit` answers a char, and as an Option, which is no plainer.
@@ -34,7 +32,7 @@ fn digit_text(n: u8) -> u8
 }
 
 // Neither this nor a whole line is written by a Display: no clause of write! says when it succeeds, and a push always does.
-fn push_hex<const N: usize>(line: &mut ArrayVec<u8, N>, src: &[u8])
+fn push_hex<const N: usize>(line: &mut ByteVec<N>, src: &[u8])
     ensures { line.new.items ≡ line_with N line.old.items (hex_text src.now) }
 {
     for b in src {
@@ -42,7 +40,7 @@ fn push_hex<const N: usize>(line: &mut ArrayVec<u8, N>, src: &[u8])
     }
 }
 
-fn push_data<const N: usize>(line: &mut ArrayVec<u8, N>, src: &[u8])
+fn push_data<const N: usize>(line: &mut ByteVec<N>, src: &[u8])
     ensures { line.new.items ≡ line_with N line.old.items (data_text src.now) }
 {
     if src.is_empty() {
@@ -52,7 +50,7 @@ fn push_data<const N: usize>(line: &mut ArrayVec<u8, N>, src: &[u8])
     }
 }
 
-pub fn push_decimal<const N: usize>(line: &mut ArrayVec<u8, N>, n: u64)
+pub fn push_decimal<const N: usize>(line: &mut ByteVec<N>, n: u64)
     ensures { line.new.items ≡ line_with N line.old.items (decimal_text n) }
 {
     let mut digits = itoa::Buffer::new();

@@ -31,6 +31,7 @@ pub trait Made {
 }
 
 // A printed line of each.
+#[derive(Clone, Copy)]
 pub struct Lines;
 
 impl Made for Lines {
@@ -48,6 +49,7 @@ impl Made for Lines {
 }
 
 // The record of each.
+#[derive(Clone, Copy)]
 pub struct Entries;
 
 impl Made for Entries {

@@ -5,11 +5,11 @@ ghost use Rattle.std.specs.Prelude.{[], ◌≡◌, option_map};
 ghost use Rattle.label.specs.Tags.{empty};
 ghost use Rattle.values.specs.Values.{digit_of, decimal_from, decimal_of, set_from, hex_set_of, pairs_from, data_of};
 
-use arrayvec::ArrayVec;
+use bounded::ByteVec;
 use label::Label;
 
 // The bytes that a field of data says.
-pub type Data = ArrayVec<u8, 255>;
+pub type Data = ByteVec<255>;
 
 // What a digit says. std's to_digit takes upper case, too.
 #[tactic(auto, unfolding(crate::specs::Values::digit_of))]
@@ -84,7 +84,7 @@ fn pairs(s: &[u8], max: u8) -> Option<Data>
         if usize::from(max) <= data.len() {
             return None;
         }
-        data.push(b);
+        data.push(b)?;
         left = rest;
     }
     if left.is_empty() { Some(data) } else { None }

@@ -1,0 +1,102 @@
+// Bytes in a value that can be copied.
+#![tactic(auto)]
+
+ghost use Rattle.std.specs.Prelude.{ℕ, [], ◌∷◌, ◌≡◌, ◌<◌, ◌≤◌, ◌↔◌, length, IsSome};
+ghost use Rattle.bounded.specs.ByteVec.{extended};
+
+use std::marker::Model;
+use std::ops::DerefSlice;
+
+// At most N bytes, which lie in the value itself. The kit's ArrayVec is no `Copy`.
+#[derive(Clone, Copy)]
+pub struct ByteVec<const N: usize> {
+    bytes: [u8; N],
+    len: usize,
+}
+
+// The bytes behind the first len are zeros, so that the items say the whole value: a `Copy` type has to give its fields back.
+impl<const N: usize> Model for ByteVec<N> {
+    ghost use Rattle.std.specs.Prelude.{◌≡◌, ◌≤◌, length, take};
+    ghost use Rattle.std.proofs.Common.{arith, length-take-le};
+    ghost use Rattle.bounded.specs.ByteVec.{ByteVec as Items, padded};
+
+    ghost Value = { Items };
+
+    ghost view = { λ v. record { items = take v.len v.bytes } };
+
+    ghost invariant = { λ v. (v.len ≤ N) × (length v.bytes ≡ N) × (padded N (take v.len v.bytes) ≡ v.bytes) };
+
+    ghost inverse = { λ v. record { bytes = padded N v.items; len = length v.items } };
+
+    ghost inverse_ok = { λ v h i. record {
+      bytes = h.2 i;
+      len = length-take-le v.len v.bytes (omega (arith, h.0, h.1)) i;
+    } };
+}
+
+impl<const N: usize> ByteVec<N> {
+    // No bytes.
+    pub fn new() -> Self
+        ensures { result.items ≡ [] }
+    {
+        ByteVec {
+            bytes: [0; N],
+            len: 0,
+        }
+    }
+
+    // How many bytes there are.
+    #[inline]
+    pub fn len(&self) -> usize
+        ensures value { result ≡ length self.now.items }
+        ensures fits { result ≤ N }
+    {
+        self.len
+    }
+
+    // The bytes.
+    #[inline]
+    pub fn as_slice(&self) -> &[u8]
+        ensures value { result.now ≡ self.now.items }
+        ensures fits { length result.now ≤ N }
+    {
+        &self.bytes[..self.len]
+    }
+
+    // Puts bytes behind, as many as have room.
+    #[inline]
+    pub fn extend(&mut self, src: &[u8])
+        ensures { self.new.items ≡ extended N self.old.items src.now }
+    {
+        let len = self.len;
+        let n = src.len().min(N - len);
+        let room = &mut self.bytes[..];
+        room[len..len + n].copy_from_slice(&src[..n]);
+        self.len = len + n;
+    }
+
+    // Puts a byte behind. None where it has no room.
+    #[inline]
+    pub fn push(&mut self, byte: u8) -> Option<()>
+        ensures items { self.new.items ≡ extended N self.old.items (byte ∷ []) }
+        ensures variant { IsSome result ↔ (length self.old.items < N) }
+    {
+        if self.len == N {
+            return None;
+        }
+        self.bytes[self.len] = byte;
+        self.len += 1;
+        Some(())
+    }
+}
+
+impl<const N: usize> DerefSlice for ByteVec<N> {
+    type Elem = u8;
+
+    ghost deref_gives = { λ v xs. (xs ≡ v.items) × (length xs ≤ N) };
+
+    #[inline]
+    fn deref(&self) -> &[u8] {
+        self.as_slice()
+    }
+}
