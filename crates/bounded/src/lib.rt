@@ -1,13 +1,12 @@
 // Bytes in a value that can be copied.
 #![tactic(auto)]
 
-ghost use Rattle.std.specs.Prelude.{ℕ, [], ◌∷◌, ◌≡◌, ◌<◌, ◌≤◌, ◌↔◌, length, IsSome};
-ghost use Rattle.bounded.specs.ByteVec.{extended};
+ghost use Rattle.std.specs.Prelude.{[], ◌∷◌, ◌++◌, ◌≡◌, ◌+◌, ◌<◌, ◌≤◌, ◌↔◌, length, IsSome, OnSome, IfNone};
 
 use std::marker::Model;
 use std::ops::DerefSlice;
 
-// At most N bytes, which lie in the value itself. The kit's ArrayVec is no `Copy`.
+// At most N bytes, which lie in the value itself. arrayvec's ArrayVec is not `Copy`.
 #[derive(Clone, Copy)]
 pub struct ByteVec<const N: usize> {
     bytes: [u8; N],
@@ -51,35 +50,23 @@ impl<const N: usize> ByteVec<N> {
         ensures value { result ≡ length self.now.items }
         ensures fits { result ≤ N }
     {
-        self.len
+        self.deref().len()
     }
 
-    // The bytes.
+    // How many more bytes have room.
     #[inline]
-    pub fn as_slice(&self) -> &[u8]
-        ensures value { result.now ≡ self.now.items }
-        ensures fits { length result.now ≤ N }
+    pub fn remaining_capacity(&self) -> usize
+        ensures { result + length self.now.items ≡ N }
     {
-        &self.bytes[..self.len]
+        N - self.len
     }
 
-    // Puts bytes behind, as many as have room.
+    // Appends a byte. None where it has no room.
     #[inline]
-    pub fn extend(&mut self, src: &[u8])
-        ensures { self.new.items ≡ extended N self.old.items src.now }
-    {
-        let len = self.len;
-        let n = src.len().min(N - len);
-        let room = &mut self.bytes[..];
-        room[len..len + n].copy_from_slice(&src[..n]);
-        self.len = len + n;
-    }
-
-    // Puts a byte behind. None where it has no room.
-    #[inline]
-    pub fn push(&mut self, byte: u8) -> Option<()>
-        ensures items { self.new.items ≡ extended N self.old.items (byte ∷ []) }
+    pub fn try_push(&mut self, byte: u8) -> Option<()>
         ensures variant { IsSome result ↔ (length self.old.items < N) }
+        ensures items { OnSome result (self.new.items ≡ self.old.items ++ byte ∷ []) }
+        ensures full { IfNone result (self.new ≡ self.old) }
     {
         if self.len == N {
             return None;
@@ -88,8 +75,27 @@ impl<const N: usize> ByteVec<N> {
         self.len += 1;
         Some(())
     }
+
+    // Appends all of some bytes. None, and nothing is appended, where not all have room.
+    #[inline]
+    pub fn try_extend_from_slice(&mut self, src: &[u8]) -> Option<()>
+        ensures variant { IsSome result ↔ (length self.old.items + length src.now ≤ N) }
+        ensures items { OnSome result (self.new.items ≡ self.old.items ++ src.now) }
+        ensures full { IfNone result (self.new ≡ self.old) }
+    {
+        if self.remaining_capacity() < src.len() {
+            return None;
+        }
+        let len = self.len;
+        let end = len + src.len();
+        let room = &mut self.bytes[..];
+        room[len..end].copy_from_slice(src);
+        self.len = end;
+        Some(())
+    }
 }
 
+// The bytes.
 impl<const N: usize> DerefSlice for ByteVec<N> {
     type Elem = u8;
 
@@ -97,6 +103,6 @@ impl<const N: usize> DerefSlice for ByteVec<N> {
 
     #[inline]
     fn deref(&self) -> &[u8] {
-        self.as_slice()
+        &self.bytes[..self.len]
     }
 }

@@ -17,7 +17,9 @@ pub type Line = ByteVec<162>;
 pub fn push_bytes<const N: usize>(line: &mut ByteVec<N>, src: &[u8])
     ensures { line.new.items ≡ line_with N line.old.items src.now }
 {
-    line.extend(src);
+    let room = line.remaining_capacity();
+    line.try_extend_from_slice(handing::front(src, room))
+        .unwrap();
 }
 
 // `char::from_digit` answers a char, and as an Option, which is no plainer.

@@ -84,7 +84,7 @@ fn pairs(s: &[u8], max: u8) -> Option<Data>
         if usize::from(max) <= data.len() {
             return None;
         }
-        data.push(b)?;
+        data.try_push(b)?;
         left = rest;
     }
     if left.is_empty() { Some(data) } else { None }

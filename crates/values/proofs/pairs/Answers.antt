@@ -1,7 +1,6 @@
 use Rattle.std.proofs.Common.{◌≡◌, sym, ap, ◌∙◌, ◌+◌, arith, length, length-append}
 use borrow.Author.Tests.{eqb-true, eqb-false}
 use Rattle.values.proofs.Laws.{digit_below, pairs_end, pairs_odd, pairs_high, pairs_low, pairs_full, pairs_step}
-use Rattle.bounded.proofs.Room.{one_more}
 use Rattle.values.proofs.pairs.Goals as goal
 
 pub returns-in_err-digit : goal.returns-in_err-digit
@@ -24,9 +23,8 @@ returns-then-from-len c =
 
 pub loop-left-preserved : goal.loop-left-preserved
 loop-left-preserved c =
-    let l = c.loop-left in
-    let put = c.in_ok-push.ensures.items ∙ one_more 255 l.data.items _ (omega arith) in
-    let long : length c.push.new.self.items ≡ length l.data.items + 1 = ap length put ∙ length-append _ _ in (
+    let l = c.loop-left in let put = c.in_ok-try_push.ensures.items in
+    let long : length c.try_push.new.self.items ≡ length l.data.items + 1 = ap length put ∙ length-append l.data.items _ in (
       omega (arith, long),
       rw put (sym (pairs_step _ l.data.items _ _ _ c.in_ok-digit.ensures c.in_ok-b.ensures c.in-len2-up.len_at_least (omega arith)) ∙ l.invariant.1),
     )
