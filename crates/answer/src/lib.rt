@@ -44,7 +44,7 @@ fn need_by(kind: Kind, was: Label, is: Label, other: Label) -> Label
 }
 
 // The answer to a call, by what it saw, its outcome and its effect.
-pub fn answer_of<E: Numbered + Copy>(call: Call, seen: Seen, v: Result<(), E>, x: Effect) -> Answer<E>
+pub fn answer_of<E: Numbered>(call: Call, seen: Seen, v: Result<(), E>, x: Effect) -> Answer<E>
     ensures { result ≡ answered_by E.number_in (fields_given (call_with call [] [])) seen v x }
 {
     let f = records::fields_of(call);
