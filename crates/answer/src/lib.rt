@@ -11,12 +11,13 @@ ghost use Rattle.answer.specs.Answered.{answered_by};
 use decide::Seen;
 use entity::Entity;
 use label::Label;
+use records::Numbered;
 use rules::{Call, Kind, Refusal};
 
 // What a call comes to: its outcome, and its record.
 #[derive(Clone, Copy)]
-pub struct Answer {
-    pub outcome: Result<(), Refusal>,
+pub struct Answer<E = Refusal> {
+    pub outcome: Result<(), E>,
     pub entry: [u8; records::SIZE],
 }
 
@@ -43,8 +44,8 @@ fn need_by(kind: Kind, was: Label, is: Label, other: Label) -> Label
 }
 
 // The answer to a call, by what it saw, its outcome and its effect.
-pub fn answer_of(call: Call, seen: Seen, v: Result<(), Refusal>, x: Effect) -> Answer
-    ensures { result ≡ answered_by (fields_given (call_with call [] [])) seen v x }
+pub fn answer_of<E: Numbered>(call: Call, seen: Seen, v: Result<(), E>, x: Effect) -> Answer<E>
+    ensures { result ≡ answered_by E.number_in (fields_given (call_with call [] [])) seen v x }
 {
     let f = records::fields_of(call);
     let own = v.is_ok() & (f.caller == x.slot);

@@ -13,14 +13,18 @@ use Rattle.load.specs.Tables.{entities_in, table_in}
 
 -- accepted, or refused at a line
 abbrev pub Verdict : Type 0
-Verdict = Result (Unit {0}) Fault
+Verdict = Result (Unit {0}) (Fault Refusal)
+
+-- the number that a verdict returns, by that of each refusal
+abbrev pub verdict_number_by : {E : Type 0} → (E → ℕ) → Result (Unit {0}) (Fault E) → ℕ
+verdict_number_by n (Ok u) = 0
+verdict_number_by n (Err f) = n f.refusal
 
 -- the number and the line that a verdict returns
 abbrev pub verdict_number : Verdict → ℕ
-verdict_number (Ok u) = 0
-verdict_number (Err f) = number f.refusal
+verdict_number = verdict_number_by number
 
-abbrev pub verdict_line : Verdict → ℕ
+abbrev pub verdict_line : {E : Type 0} → Result (Unit {0}) (Fault E) → ℕ
 verdict_line (Ok u) = 0
 verdict_line (Err f) = f.line
 

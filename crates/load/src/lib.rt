@@ -6,10 +6,11 @@ ghost use Rattle.rules.specs.declared.Refusal.TheVariants.{BadLine, SlotTwice, E
 ghost use Rattle.monitor.specs.Table.{empty_table, empty_with};
 ghost use Rattle.textblocks.specs.Blocks.{lines_at, bad_line};
 ghost use Rattle.load.specs.Tables.{groups_from, none_stored, fill, groups_in, stored, entities_on};
-ghost use Rattle.load.specs.Load.{verdict_number, verdict_line, refuse_at, load_of};
+ghost use Rattle.load.specs.Load.{verdict_number_by, verdict_line, refuse_at, load_of};
 
 use grouprows::GroupColumns;
 use monitor::Table;
+use records::Numbered;
 use rows::EntityColumns;
 use rules::Refusal;
 use textblocks::Rest;
@@ -25,8 +26,8 @@ pub struct Marks {
 // Why a text is refused, and at which line; 0, document 01's number for a text that is refused at none: C and the printed line
 // have it.
 #[derive(Clone, Copy)]
-pub struct Fault {
-    pub refusal: Refusal,
+pub struct Fault<E = Refusal> {
+    pub refusal: E,
     pub line: usize,
 }
 
@@ -153,14 +154,14 @@ pub fn load(text: &[u8]) -> Loaded
 }
 
 // The number that a verdict returns; document 01's 0 where the text is accepted.
-pub fn verdict_number(v: Result<(), Fault>) -> u8
-    ensures { result ≡ verdict_number v }
+pub fn verdict_number<E: Numbered>(v: Result<(), Fault<E>>) -> u8
+    ensures { result ≡ verdict_number_by E.number_in v }
 {
     records::number_of(v.map_err(|fault| fault.refusal))
 }
 
 // The line that a verdict returns; document 01's 0 where the text is accepted.
-pub fn verdict_line(v: Result<(), Fault>) -> usize
+pub fn verdict_line<E: Drop>(v: Result<(), Fault<E>>) -> usize
     ensures { result ≡ verdict_line v }
 {
     match v {

@@ -147,19 +147,19 @@ entities-marked text = fill-marked _ (most text) 2 _ (rows_at text start) (omega
 
 -- ---- the line of a fault
 
-verdict-within : (k : ℕ) (r : Refusal) (o : Option ℕ) (v : Verdict) → Within k o → ((f : Fault) → v ≡ Err f → f.line ≤ k) → (f : Fault) → refuse_at r o v ≡ Err f → f.line ≤ k
+verdict-within : (k : ℕ) (r : Refusal) (o : Option ℕ) (v : Verdict) → Within k o → ((f : Fault Refusal) → v ≡ Err f → f.line ≤ k) → (f : Fault Refusal) → refuse_at r o v ≡ Err f → f.line ≤ k
 unfolding refuse_at
 verdict-within k r None v w h f e = h f e
 verdict-within k r (Some n) v w h f e = omega (arith, w, ap (λ (x : Verdict). verdict_line x) e)
 
-pub fault-line : (text : List ℕ) (f : Fault) → verdict_of text ≡ Err f → f.line < 10 ^ 6
+pub fault-line : (text : List ℕ) (f : Fault Refusal) → verdict_of text ≡ Err f → f.line < 10 ^ 6
 unfolding verdict_of
 fault-line text f e = go (ltb 65535 (length text)) refl e
   where
     rest : Verdict
     rest = refuse_at BadLine (bad_line text) (refuse_at SlotTwice (entities_in text).twice (refuse_at EntityBreaksGroup (entities_in text).breaks (Ok tt)))
 
-    within : (f : Fault) → rest ≡ Err f → f.line ≤ most text
+    within : (f : Fault Refusal) → rest ≡ Err f → f.line ≤ most text
     within =
         verdict-within (most text) BadLine (bad_line text) _ (bad-within text)
         (verdict-within (most text) SlotTwice (entities_in text).twice _ (entities-marked text).twice

@@ -10,5 +10,5 @@ use Rattle.page.specs.Page.{page_output}
 
 -- The line of a refused text, and that of a refused audit, are refused by 12 in the place of records, and give no page
 pub record RefusalsRefused : Type 0 where
-  pub text : (text : List ℕ) (f : Fault) → verdict_of text ≡ Err f → page_output (refused_line (number f.refusal) f.line) ≡ refused_audit 12
+  pub text : (text : List ℕ) (f : Fault Refusal) → verdict_of text ≡ Err f → page_output (refused_line (number f.refusal) f.line) ≡ refused_audit 12
   pub audit : (e : Refusal) → page_output (refused_audit (number e)) ≡ refused_audit 12

@@ -28,6 +28,7 @@ use Rattle.callrows.specs.declared.CallColumns.{CallColumns}
 use Rattle.textblocks.specs.declared.Place.{Place}
 use Rattle.textblocks.specs.Blocks.{calls_at, rows_at, row_good, rows_bad, block_bad, calls_bad, bad_line}
 use Rattle.textblocks.specs.declared.Block.{Block}
+use Rattle.rules.specs.declared.Refusal.{Refusal}
 use Rattle.load.specs.declared.Fault.{Fault}
 use Rattle.load.specs.Load.{Verdict, verdict_of, load_of}
 use Rattle.textblocks.specs.CallsIn.{calls_from, call_columns_in, calls_of, call_at}
@@ -128,7 +129,7 @@ rows_none b named text p e = go (ltb (line_end text p.at) (length text) && named
     go true q = q
     go false q = cc
 
-only_accepted : (b : Bool) (f : Fault) (v : Verdict) → cond b (Err f) v ≡ Ok tt → b ≡ false
+only_accepted : (b : Bool) (f : Fault Refusal) (v : Verdict) → cond b (Err f) v ≡ Ok tt → b ≡ false
 only_accepted true f v e = cc
 only_accepted false f v e = refl
 
