@@ -187,7 +187,7 @@ previewed =
     -- the add would be allowed; it is not made, so that the fetch would still be refused
     ∷ previews (add_tag 1 0 0) (hex "0501ff00000000000100000000000000") []
     ∷ previews (fetch 1 0) (hex "0401000700ffff000100000000000000") []
-    ∷ line (add_tag 1 0 0) (hex "0501ff00000000000100000000000000") (now 1 (entity Program 1 0 1 0 0 0 []))
+    ∷ line (add_tag 1 0 0) (hex "0501ff00000000000100000000000000") (now 1 (entity Program 0x1 0 1 0 0 0 []))
     -- the fetch would move two bytes; slot 1 still has none to show
     ∷ previews (fetch 1 0) (hex "0401000002ffff000100000000000000") []
     ∷ previews (show 1 (replicate 64 0)) (hex "0201ff0000ffff000100000000000000") []
