@@ -160,7 +160,7 @@ module _ {S : Type 0} (P : Pieces S) (b : Bounded P) where
 -- ---- a loop that fills a buffer
 
 -- bytes behind a front that fills a buffer
-sets_front : (d x out : List ℕ) → length d + length x ≤ length out → sets (filled d out) (length d) x ≡ filled (d ++ x) out
+pub sets_front : (d x out : List ℕ) → length d + length x ≤ length out → sets (filled d out) (length d) x ≡ filled (d ++ x) out
 sets_front d x out h =
     let k : length (d ++ x) ≡ length d + length x = length-append d x in
     sets-eq x (filled d out) (length d) (omega (arith, filled-length d out (omega arith)))

@@ -70,7 +70,7 @@ unfolding data_text
 data_some [] h = absurd (h refl)
 data_some (b ∷ bs) h = refl
 
-data_most : (s : List ℕ) → length s ≤ 64 → length (data_text s) ≤ 128
+pub data_most : (s : List ℕ) → length s ≤ 64 → length (data_text s) ≤ 128
 unfolding data_text
 data_most [] h = omega arith
 data_most (b ∷ bs) h = omega (arith, length-hex (b ∷ bs))
