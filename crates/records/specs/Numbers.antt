@@ -2,7 +2,7 @@
 -- Assumes nothing.
 use Rattle.std.specs.Prelude.{ℕ, Result, Ok, Err}
 
--- the rules' `number_of` where the refusals are theirs; whatever else a refusal is told by, a number itself for one
+-- at the rules' refusals their `number_of`
 abbrev pub number_by : {E : Type 0} → (E → ℕ) → Result (Unit {0}) E → ℕ
 number_by f (Ok _) = 0
 number_by f (Err e) = f e
