@@ -1,7 +1,7 @@
 // The lines that the programs print.
 #![tactic(auto)]
 
-ghost use Rattle.std.specs.Prelude.{◌≡◌, ◌++◌, ◌<◌, take};
+ghost use Rattle.std.specs.Prelude.{[], ◌∷◌, ◌≡◌, ◌++◌, ◌<◌, take};
 ghost use Rattle.rules.specs.Record.{record_size};
 ghost use Rattle.label.specs.Words.{words};
 ghost use Rattle.print.specs.Lines.{digit_text, hex_text, data_text, decimal_text, call_line, record_line, refused_text, refused_line, refused_audit, line_size, line_with};
@@ -42,13 +42,15 @@ fn push_hex<const N: usize>(line: &mut ByteVec<N>, src: &[u8])
     }
 }
 
+// Data, and byte 10.
 fn push_data<const N: usize>(line: &mut ByteVec<N>, src: &[u8])
-    ensures { line.new.items ≡ line_with N line.old.items (data_text src.now) }
+    ensures { line.new.items ≡ line_with N line.old.items (data_text src.now ++ 10 ∷ []) }
 {
     if src.is_empty() {
-        push_bytes(line, b"-");
+        push_bytes(line, b"-\n");
     } else {
         push_hex(line, src);
+        push_bytes(line, b"\n");
     }
 }
 
@@ -76,7 +78,6 @@ pub fn call_line(entry: [u8; records::SIZE], shown: &[u8]) -> Line
     push_hex(&mut line, &entry);
     push_bytes(&mut line, b" ");
     push_data(&mut line, shown);
-    push_bytes(&mut line, b"\n");
     line
 }
 
