@@ -68,11 +68,12 @@ impl<const N: usize> ByteVec<N> {
         ensures items { OnSome result (self.new.items ≡ self.old.items ++ byte ∷ []) }
         ensures full { IfNone result (self.new ≡ self.old) }
     {
-        if self.len == N {
+        let len = self.len;
+        if N <= len {
             return None;
         }
-        self.bytes[self.len] = byte;
-        self.len += 1;
+        self.bytes[len] = byte;
+        self.len = len + 1;
         Some(())
     }
 
