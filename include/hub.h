@@ -32,7 +32,7 @@
  * empty list shows nothing, and an empty text is refused by 15 at line 1.
  *
  * Stack. A call needs less than HUB_STACK bytes below the frame of the function that makes it, the table that is passed
- * and the reply included; the deepest takes 28,168. tests/c/stack.c measures it: each function is called on a painted
+ * and the reply included; the deepest takes 28,040. tests/c/stack.c measures it: each function is called on a painted
  * stack, and the deepest byte that was written counts.
  *
  * What is proved: on every table and all bytes each function returns exactly what the rules say of the table that the

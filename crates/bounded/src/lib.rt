@@ -13,7 +13,7 @@ pub struct ByteVec<const N: usize> {
     len: usize,
 }
 
-// The bytes behind the first len are zeros, so that the items say the whole value: a `Copy` type has to give its fields back.
+// The bytes behind the first len are zeros. So the items determine the whole value, which `inverse` has to show of a `Copy` type.
 impl<const N: usize> Model for ByteVec<N> {
     ghost use Rattle.std.specs.Prelude.{◌≡◌, ◌≤◌, length, take};
     ghost use Rattle.std.proofs.Common.{arith, length-take-le};
